@@ -1,0 +1,9 @@
+pub mod FloatOrder
+pub mod MaxMin
+pub mod FromZero
+pub mod AbsoluteValue
+pub mod FloatValues
+pub mod Dyadic
+pub mod SumLaws
+pub mod RoundingLaws
+pub mod RoundSteps

@@ -1,0 +1,164 @@
+-- Instances of the arithmetic of document 01, computed: each side works out to the same float.
+-- `fin s m e` is the number m * 2 ^ e, negative where s is true; `negsuc k` is the exponent -(k + 1).
+use mathlib.Core.Path.{_≡_, refl}
+use mathlib.Core.Bool.{true, false}
+use Prim.Native.Nat.{_-_, _^_}
+use lib.IntN.{pos, negsuc}
+use lib.Ieee as I
+use lib.Ieee.{nan, inf, fin, binary64, round, sub, div}
+use Rattle.arith.specs.Order.{maxOf, minOf, absOf}
+use Rattle.arith.specs.Rounding.{roundAway, tenTo, roundTo}
+
+-- ---- whole rounding
+
+-- halves go away from zero: 0.5 to 1, 2.5 to 3, -0.5 to -1, -2.5 to -3
+half : roundAway (fin false 1 (negsuc 0)) ≡ fin false 1 (pos 0)
+unfolding roundAway round
+half = refl
+
+two-and-a-half : roundAway (fin false 5 (negsuc 0)) ≡ fin false 3 (pos 0)
+unfolding roundAway round
+two-and-a-half = refl
+
+minus-half : roundAway (fin true 1 (negsuc 0)) ≡ fin true 1 (pos 0)
+unfolding roundAway round
+minus-half = refl
+
+minus-two-and-a-half : roundAway (fin true 5 (negsuc 0)) ≡ fin true 3 (pos 0)
+unfolding roundAway round
+minus-two-and-a-half = refl
+
+-- 0.49999999999999994, the float next below a half, goes to 0; its negative to -0
+below-half : roundAway (fin false (2 ^ 53 - 1) (negsuc 53)) ≡ fin false 0 (pos 0)
+unfolding roundAway round
+below-half = refl
+
+above-minus-half : roundAway (fin true (2 ^ 53 - 1) (negsuc 53)) ≡ fin true 0 (pos 0)
+unfolding roundAway round
+above-minus-half = refl
+
+-- the last half, 2 ^ 52 - 0.5, goes to 2 ^ 52
+last-half : roundAway (fin false (2 ^ 53 - 1) (negsuc 0)) ≡ fin false 1 (pos 52)
+unfolding roundAway round
+last-half = refl
+
+-- 2 ^ 53 - 1 lies where the floats are the whole numbers, 3 * 2 ^ 60 above, and the largest float above that: they stay
+last-odd : roundAway (fin true (2 ^ 53 - 1) (pos 0)) ≡ fin true (2 ^ 53 - 1) (pos 0)
+unfolding roundAway round
+last-odd = refl
+
+large : roundAway (fin false 3 (pos 60)) ≡ fin false 3 (pos 60)
+unfolding roundAway round
+large = refl
+
+largest : roundAway (fin false (2 ^ 53 - 1) (pos 971)) ≡ fin false (2 ^ 53 - 1) (pos 971)
+unfolding roundAway round
+largest = refl
+
+-- the smallest floats, 2 ^ -1074 and its negative, go to the zero of their sign, and both zeros stay
+smallest : roundAway (fin false 1 (negsuc 1073)) ≡ fin false 0 (pos 0)
+unfolding roundAway round
+smallest = refl
+
+smallest-minus : roundAway (fin true 1 (negsuc 1073)) ≡ fin true 0 (pos 0)
+unfolding roundAway round
+smallest-minus = refl
+
+plus-zero : roundAway (fin false 0 (pos 0)) ≡ fin false 0 (pos 0)
+unfolding roundAway round
+plus-zero = refl
+
+minus-zero : roundAway (fin true 0 (pos 0)) ≡ fin true 0 (pos 0)
+unfolding roundAway round
+minus-zero = refl
+
+-- what is no finite number stays
+not-a-number : roundAway nan ≡ nan
+unfolding roundAway round
+not-a-number = refl
+
+infinite : roundAway (inf true) ≡ inf true
+unfolding roundAway round
+infinite = refl
+
+-- ---- powers of ten: 10 ^ d is 5 ^ d * 2 ^ d
+
+ten-to-0 : tenTo 0 ≡ fin false 1 (pos 0)
+unfolding tenTo
+ten-to-0 = refl
+
+ten-to-1 : tenTo 1 ≡ fin false 5 (pos 1)
+unfolding tenTo
+ten-to-1 = refl
+
+ten-to-2 : tenTo 2 ≡ fin false 25 (pos 2)
+unfolding tenTo
+ten-to-2 = refl
+
+ten-to-3 : tenTo 3 ≡ fin false 125 (pos 3)
+unfolding tenTo
+ten-to-3 = refl
+
+ten-to-4 : tenTo 4 ≡ fin false 625 (pos 4)
+unfolding tenTo
+ten-to-4 = refl
+
+ten-to-5 : tenTo 5 ≡ fin false 3125 (pos 5)
+unfolding tenTo
+ten-to-5 = refl
+
+ten-to-6 : tenTo 6 ≡ fin false 15625 (pos 6)
+unfolding tenTo
+ten-to-6 = refl
+
+-- more than 6 count as 6
+ten-to-9 : tenTo 9 ≡ tenTo 6
+unfolding tenTo
+ten-to-9 = refl
+
+-- ---- marked instances
+
+-- 6: 0.125 and -0.125 to 2 places are the floats nearest 0.13 and -0.13
+pub marked-6 : roundTo 2 (fin false 1 (negsuc 2)) ≡ I.round binary64 false 13 100
+unfolding roundTo I.round
+marked-6 = refl
+
+pub marked-6-minus : roundTo 2 (fin true 1 (negsuc 2)) ≡ I.round binary64 true 13 100
+unfolding roundTo I.round
+marked-6-minus = refl
+
+-- 7: from 131072, which is 2 ^ 17, to 131071 the change (end - start) / start, to 4 places, is minus zero
+pub marked-7 : roundTo 4 (div binary64 (sub binary64 (fin false 131071 (pos 0)) (fin false 1 (pos 17))) (fin false 1 (pos 17))) ≡ fin true 0 (pos 0)
+unfolding roundTo sub div
+marked-7 = refl
+
+-- ---- the larger, the smaller, the absolute value
+
+-- of 1 and -2, and where one side is NaN or the two are zeros
+larger : maxOf (fin false 1 (pos 0)) (fin true 1 (pos 1)) ≡ fin false 1 (pos 0)
+unfolding maxOf minOf
+larger = refl
+
+smaller : minOf (fin false 1 (pos 0)) (fin true 1 (pos 1)) ≡ fin true 1 (pos 1)
+unfolding maxOf minOf
+smaller = refl
+
+larger-nan : maxOf nan (fin true 1 (pos 1)) ≡ fin true 1 (pos 1)
+unfolding maxOf minOf
+larger-nan = refl
+
+smaller-nan : minOf (fin true 1 (pos 1)) nan ≡ fin true 1 (pos 1)
+unfolding maxOf minOf
+smaller-nan = refl
+
+larger-zero : maxOf (fin true 0 (pos 0)) (fin false 0 (pos 0)) ≡ fin true 0 (pos 0)
+unfolding maxOf minOf
+larger-zero = refl
+
+no-minus-zero : absOf (fin true 0 (pos 0)) ≡ fin false 0 (pos 0)
+unfolding absOf
+no-minus-zero = refl
+
+infinite-size : absOf (inf true) ≡ inf false
+unfolding absOf
+infinite-size = refl

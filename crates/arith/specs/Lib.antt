@@ -1,0 +1,5 @@
+pub mod Order
+pub mod Rounding
+pub mod Cases
+pub mod Sums
+pub mod SumCases

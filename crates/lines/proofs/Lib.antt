@@ -1,0 +1,2 @@
+pub mod NanBits
+pub mod Signs

@@ -1,0 +1,24 @@
+// Lines of words, for the programs that answer them: floats by their bits, whole numbers, and where
+// a word ends.
+mod floats;
+mod numbers;
+mod words;
+
+pub use floats::Bits;
+pub use floats::bits_of;
+pub use floats::float_of;
+pub use floats::show;
+pub use numbers::Small;
+pub use numbers::Whole;
+pub use numbers::is_word;
+pub use numbers::small_of;
+pub use numbers::whole_of;
+pub use numbers::word_end;
+pub use numbers::write_small;
+pub use numbers::write_whole;
+pub use words::WholeAt;
+pub use words::is;
+pub use words::name_len;
+pub use words::show_whole;
+pub use words::value_at;
+pub use words::whole_at;
