@@ -1,0 +1,10 @@
+pub mod Asked
+pub mod Including
+pub mod MergedLists
+pub mod MergedBars
+pub mod GapPairs
+pub mod TailMerging
+pub mod Moves
+pub mod Columns
+pub mod Searching
+pub mod KeptBars

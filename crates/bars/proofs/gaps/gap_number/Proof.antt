@@ -1,0 +1,29 @@
+use Rattle.bars.specs.Gaps.{gapNumber}
+use borrow.Author.Needs.{needs}
+use Rattle.bars.proofs.gaps.gap_number.Statement.{statement}
+use Rattle.bars.proofs.gaps.gap_number.Tie as tie
+
+enum-told : tie.Need-enum-told
+enum-told c = search needs
+
+enum-told-2 : tie.Need-enum-told-2
+enum-told-2 c = search needs
+
+enum-told-3 : tie.Need-enum-told-3
+enum-told-3 c = search needs
+
+returns : tie.Need-returns
+unfolding gapNumber
+returns c = search needs
+
+returns-2 : tie.Need-returns-2
+unfolding gapNumber
+returns-2 c = search needs
+
+returns-3 : tie.Need-returns-3
+unfolding gapNumber
+returns-3 c = search needs
+
+pub gap-number-spec : {M : Type 1} → statement M
+gap-number-spec =
+    tie.close (tie.spec enum-told enum-told-2 enum-told-3 returns returns-2 returns-3)

@@ -1,0 +1,137 @@
+-- Document 01's gaps: check_gap_info over the kept raw bars, as rows of prices: open, close, high, low, vol, amount. Definitions only.
+use Prim.Native.Nat.{ℕ, _+_, _-_}
+use mathlib.Core.Bool.{Bool, true, false}
+use mathlib.Core.List.{List, [], _∷_, map}
+use lib.ListN.{length, take, getD}
+use lib.Dec.{ltb, leb}
+use lib.IntN.{pos}
+use lib.Ieee.{Float, nan, fin, binary64, lt, sub, div}
+use Rattle.arith.specs.Rounding.{roundTo}
+use Rattle.bars.specs.declared.gaps.Gap.{Gap}
+use Rattle.bars.specs.declared.gaps.Gap.the-variants.{NoGap, Up, Down}
+use Rattle.bars.specs.declared.gaps.GapAnswer.{GapAnswer}
+use Rattle.bars.specs.declared.gaps.GapAnswer.the-variants.{Pair, Missing}
+use Rattle.bars.specs.Lists.{some-of}
+use Rattle.bars.specs.Stores.{copied}
+
+-- ---- one pair
+
+unfoldable pub highOf : List Float → Float
+highOf p = getD p 2 nan
+
+unfoldable pub lowOf : List Float → Float
+lowOf p = getD p 3 nan
+
+-- how far the higher edge lies above the lower one, to 4 places: each operation rounds once
+unfoldable pub ratioOf : Float → Float → Float
+unfolding roundTo sub div
+ratioOf h l = roundTo 4 (sub binary64 (div binary64 h l) (fin false 1 (pos 0)))
+
+-- an up gap is covered by a bar whose low is below the first bar's high, a down gap by one whose high is above the first bar's low
+unfoldable pub coversUp : List Float → List Float → Bool
+unfolding lt highOf lowOf
+coversUp a x = lt (lowOf x) (highOf a)
+
+unfoldable pub coversDown : List Float → List Float → Bool
+unfolding lt highOf lowOf
+coversDown a x = lt (lowOf a) (highOf x)
+
+-- the pair a, b: by whether a's high is below b's low, and whether a's low is above b's high. `right` are the bars from b on.
+unfoldable pub gapIf : Bool → Bool → List Float → List Float → List (List Float) → Gap
+unfolding highOf lowOf ratioOf some-of coversUp coversDown
+gapIf true d a b right = Up (highOf a) (lowOf b) (ratioOf (lowOf b) (highOf a)) (some-of (coversUp a) right)
+gapIf false true a b right = Down (highOf b) (lowOf a) (ratioOf (lowOf a) (highOf b)) (some-of (coversDown a) right)
+gapIf false false a b right = NoGap
+
+unfoldable pub gapOf : List Float → List Float → List (List Float) → Gap
+unfolding gapIf lt highOf lowOf
+gapOf a b right = gapIf (lt (highOf a) (lowOf b)) (lt (highOf b) (lowOf a)) a b right
+
+-- ---- all pairs
+
+-- each neighbouring pair, oldest first
+unfoldable pub gapsOf : List (List Float) → List Gap
+unfolding gapOf
+gapsOf [] = []
+gapsOf (a ∷ []) = []
+gapsOf (a ∷ b ∷ l) = gapOf a b (b ∷ l) ∷ gapsOf (b ∷ l)
+
+-- ---- an answer's number and values
+
+-- 0: none, 1: up, 2: down
+unfoldable pub gapNumber : Gap → ℕ
+gapNumber NoGap = 0
+gapNumber (Up l h r c) = 1
+gapNumber (Down l h r c) = 2
+
+-- the lower edge, the higher edge and the ratio; zeros where there is no gap
+unfoldable pub gapValues : Gap → List Float
+gapValues NoGap = fin false 0 (pos 0) ∷ fin false 0 (pos 0) ∷ fin false 0 (pos 0) ∷ []
+gapValues (Up l h r c) = l ∷ h ∷ r ∷ []
+gapValues (Down l h r c) = l ∷ h ∷ r ∷ []
+
+unfoldable pub gapCovered : Gap → Bool
+gapCovered NoGap = false
+gapCovered (Up l h r c) = c
+gapCovered (Down l h r c) = c
+
+-- ---- the pair at a place: bars i and i + 1 of the first n
+
+unfoldable pub pairIf : Bool → Gap → GapAnswer
+pairIf true g = Pair g
+pairIf false g = Missing
+
+unfoldable pub gapAt : List (List Float) → ℕ → GapAnswer
+unfolding pairIf gapsOf
+gapAt ps i = pairIf (ltb (i + 1) (length ps)) (getD (gapsOf ps) i NoGap)
+
+unfoldable pub unlessShort : Bool → GapAnswer → GapAnswer
+unlessShort true r = r
+unlessShort false r = Missing
+
+unfoldable pub gapAmong : List (List Float) → ℕ → ℕ → GapAnswer
+unfolding unlessShort gapAt
+gapAmong ps n i = unlessShort (leb n (length ps)) (gapAt (take n ps) i)
+
+-- the question's number: 13 where there is no such pair
+unfoldable pub answerNumber : GapAnswer → ℕ
+answerNumber (Pair g) = 0
+answerNumber Missing = 13
+
+-- ---- all pairs of the first n, into lent columns
+
+pub record GapColumns : Type 0 where
+  pub kinds : List ℕ
+  pub values : List (List Float)
+  pub covered : List Bool
+
+abbrev pub gapColumns : List ℕ → List (List Float) → List Bool → GapColumns
+gapColumns ks vs cs = record { kinds = ks; values = vs; covered = cs }
+
+-- the gaps gs in the columns' first n places
+unfoldable pub written : List Gap → ℕ → GapColumns → GapColumns
+unfolding copied gapNumber gapValues gapCovered
+written gs n s =
+    gapColumns (copied (s .kinds) 0 (map gapNumber gs) 0 n) (copied (s .values) 0 (map gapValues gs) 0 n) (copied (s .covered) 0 (map gapCovered gs) 0 n)
+
+-- a number, and the columns then
+pub record GapsListed : Type 0 where
+  pub number : ℕ
+  pub columns : GapColumns
+
+abbrev pub gapsListed : ℕ → GapColumns → GapsListed
+gapsListed q s = record { number = q; columns = s }
+
+-- by whether n bars are there, and whether each column has a place for each pair: 4, 14, or 0 with the gaps in place
+unfoldable pub listIf : Bool → Bool → Bool → Bool → List (List Float) → ℕ → GapColumns → GapsListed
+unfolding written gapsOf
+listIf false k v c ps n s = gapsListed 4 s
+listIf true false v c ps n s = gapsListed 14 s
+listIf true true false c ps n s = gapsListed 14 s
+listIf true true true false ps n s = gapsListed 14 s
+listIf true true true true ps n s = gapsListed 0 (written (gapsOf (take n ps)) (n - 1) s)
+
+unfoldable pub listGaps : List (List Float) → ℕ → GapColumns → GapsListed
+unfolding listIf
+listGaps ps n s =
+    listIf (leb n (length ps)) (leb (n - 1) (length (s .kinds))) (leb (n - 1) (length (s .values))) (leb (n - 1) (length (s .covered))) ps n s

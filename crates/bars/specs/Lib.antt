@@ -1,0 +1,9 @@
+pub mod Lists
+pub mod Bars
+pub mod Questions
+pub mod Merging
+pub mod MergedBars
+pub mod Gaps
+pub mod Stores
+pub mod Cases
+pub mod StoreCases

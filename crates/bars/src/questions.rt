@@ -1,0 +1,120 @@
+// Questions 5 to 9 of document 01, asked of a bar that is fed. Each is answered for every bar there is, with NaN,
+// infinities and minus zero among its floats.
+ghost use mathlib.Core.Path.{_≡_};
+ghost use mathlib.Core.Option.{none};
+ghost use Rattle.bars.specs.Questions.{question5, question6, question7, question8, isPrice, fromZero, isVolume, firstFailed, firstFailedAfter};
+use crate::Bar;
+
+// Question 5: time from -2^40 to 2^40?
+pub fn time_in_range(b: Bar) -> bool
+    ensures { λ r. ⌜ r ≡ question5 b ⌝ }
+{
+    let time = b.time;
+    if -1099511627776 <= time {
+        return time <= 1099511627776;
+    }
+    false
+}
+
+// A price from 2^-20 to 2^30.
+fn is_price(x: f64) -> bool
+    ensures { λ r. ⌜ r ≡ isPrice x ⌝ }
+{
+    if 0.00000095367431640625 <= x {
+        return x <= 1073741824.0;
+    }
+    false
+}
+
+// Question 6: all four prices from 2^-20 to 2^30?
+pub fn prices_in_range(b: Bar) -> bool
+    ensures { λ r. ⌜ r ≡ question6 b ⌝ }
+{
+    if !is_price(b.open) {
+        return false;
+    }
+    if !is_price(b.close) {
+        return false;
+    }
+    if !is_price(b.high) {
+        return false;
+    }
+    is_price(b.low)
+}
+
+// Zero or more, and no minus zero, whose reciprocal is the negative infinity.
+fn from_zero(x: f64) -> bool
+    ensures { λ r. ⌜ r ≡ fromZero x ⌝ }
+{
+    if 0.0 < x {
+        return true;
+    }
+    if 0.0 == x {
+        return 0.0 < 1.0 / x;
+    }
+    false
+}
+
+// A volume or an amount from 0 to 2^50.
+fn is_volume(x: f64) -> bool
+    ensures { λ r. ⌜ r ≡ isVolume x ⌝ }
+{
+    if from_zero(x) {
+        return x <= 1125899906842624.0;
+    }
+    false
+}
+
+// Question 7: vol and amount from 0 to 2^50, minus zero barred?
+pub fn volumes_in_range(b: Bar) -> bool
+    ensures { λ r. ⌜ r ≡ question7 b ⌝ }
+{
+    if is_volume(b.vol) {
+        return is_volume(b.amount);
+    }
+    false
+}
+
+// Question 8: low at most high?
+pub fn low_at_most_high(b: Bar) -> bool
+    ensures { λ r. ⌜ r ≡ question8 b ⌝ }
+{
+    b.low <= b.high
+}
+
+// The first of questions 5 to 8 that the bar fails, and 0 where it passes them.
+pub fn question_of_bar(b: Bar) -> u64
+    ensures { λ r. ⌜ r ≡ firstFailed none b ⌝ }
+{
+    if !time_in_range(b) {
+        return 5;
+    }
+    if !prices_in_range(b) {
+        return 6;
+    }
+    if !volumes_in_range(b) {
+        return 7;
+    }
+    if !low_at_most_high(b) {
+        return 8;
+    }
+    0
+}
+
+// The first of questions 5 to 9 that the bar fails, and 0 where it passes them: `has_last` says whether a bar was accepted
+// before, and `last_time` is then the last one's time.
+pub fn question_after(has_last: bool, last_time: i64, b: Bar) -> u64
+    ensures { λ r. ⌜ r ≡ firstFailedAfter «has_last» «last_time» b ⌝ }
+{
+    let q = question_of_bar(b);
+    if q != 0 {
+        return q;
+    }
+    if has_last {
+        if last_time <= b.time {
+            return 0;
+        }
+        return 9;
+    }
+    0
+}
