@@ -1,0 +1,315 @@
+-- What the unfinished store holds after a writing step of a feed. Assumes nothing.
+use Prim.Native.Nat.{ℕ, suc, _+_, _-_, _<_, _≤_}
+use mathlib.Core.Bool.{Bool, true, false}
+use mathlib.Core.List.{List, [], _∷_, _++_, map, append-nil, append-assoc}
+use mathlib.Core.Option.{some}
+use mathlib.Core.Path.{_≡_, refl, ap, sym, _∙_, subst}
+use native.Mathlib.Nat.{le-refl, zero-add}
+use native.Mathlib.Omega.{arith}
+use lib.ListN.{length, take, drop, getD, length-append, length-drop, drop-of-length-le}
+use lib.Seq.{length-take-le, take-all, take-add, take-suc, take-append-add, drop-at, drop-drop, append-snoc, getD-drop}
+use lib.IntN.{ℤ, pos}
+use lib.Ieee.{Float}
+use Rattle.bars.specs.declared.Bar.{Bar}
+use Rattle.bars.specs.declared.NewBar.{NewBar}
+use Rattle.bars.specs.Bars.{Merged, mergedOf, own}
+use Rattle.bars.specs.Lists.{last, init}
+use Rattle.bars.specs.Merging.{mergeIn, removeInclude}
+use Rattle.bars.specs.MergedBars.{removeIncludeAfter, inPlaceOf}
+use Rattle.bars.specs.Stores.{MergedStore, mergedStore, rawPart, SizedMerged, RoomMerged, barOf, mergedBars, barAt, newBarAt, setNewBar, copied, copiedRaw, copiedMerged, placeOf}
+use Rattle.bars.proofs.Moves.{take-copied, run-is}
+use Rattle.bars.proofs.Columns.{merged-length, merged-at, merged-copied, merged-appended, merged-bars, raw-times, sized-merged-set, sized-merged-copied}
+use Rattle.strokes.specs.declared.Stand.{Stand}
+use Rattle.strokes.specs.ByTime.{from}
+use Rattle.strokes.specs.Break.{fromBar, joined}
+use Rattle.strokes.specs.Stored.{strokeWith}
+use Rattle.strokes.specs.StoreSteps.{HasUnfinished, CanMerge, CanJoin, keptUnfinished, withUnfinished, withoutLast, storedStroke}
+use Rattle.strokes.proofs.StoredRaw.{moved-down, init-take, last-take, passed, place-in}
+
+-- every column of a store of n places has room for as many as n
+pub room-of : (s : MergedStore) (n k : ℕ) → SizedMerged s n → k ≤ n → RoomMerged s k
+room-of s n k h a =
+    record {
+      raw = record { times = rw (h .raw .times) a; ids = rw (h .raw .ids) a; prices = rw (h .raw .prices) a };
+      counts = rw (h .counts) a;
+      elements = rw (h .elements) a;
+    }
+
+-- the code's stand and store are these, and n unfinished bars of the store read as l
+pub has-unfinished : (s r : Stand) (m w : MergedStore) (n : ℕ) (l : List Merged) → r ≡ withUnfinished s n → m ≡ w → SizedMerged w (s .rooms .unfinished) → n ≤ s .rooms .unfinished → take n (mergedBars w) ≡ l → HasUnfinished s r m l
+unfolding withUnfinished
+has-unfinished s r m w n l e f h k q =
+    let g = length-take-le n (mergedBars w) (rw (merged-length w (s .rooms .unfinished) h) k) in
+    record {
+      bars = (λ i. take ((e i) .unfinished) (mergedBars (f i))) ∙ q;
+      stand = e ∙ ap (withUnfinished s) (sym g ∙ ap length q);
+      sized = subst (λ (x : MergedStore). SizedMerged x (s .rooms .unfinished)) (sym f) h;
+    }
+
+module _ (s r : Stand) (m w : MergedStore) (h : SizedMerged m (s .rooms .unfinished)) where
+  pub begun-at : (k : ℕ) → s .unfinished ≤ s .rooms .unfinished → k ≤ s .unfinished → w ≡ copiedMerged m 0 m k (s .unfinished - k) → r ≡ withUnfinished s (s .unfinished - k)
+      → HasUnfinished s r w (drop k (keptUnfinished s m))
+  begun-at k a b f e =
+      let n = s .unfinished in
+      let K = s .rooms .unfinished in
+      has-unfinished s r w (copiedMerged m 0 m k (n - k)) (n - k) (drop k (keptUnfinished s m)) e f (sized-merged-copied m m 0 k (n - k) K K h h (omega arith) (omega arith)) (omega arith)
+      (ap (take (n - k)) (merged-copied m m 0 k (n - k) K K h h) ∙ moved-down (mergedBars m) k n b (rw (merged-length m K h) a))
+
+-- ---- merging
+
+merge-last : (l : List Merged) (k1 k2 : Merged) (b : Bar) → mergeIn (l ++ k1 ∷ k2 ∷ []) b ≡ l ++ k1 ∷ removeInclude k1 k2 b
+unfolding mergeIn
+merge-last [] k1 k2 b = refl
+merge-last (a ∷ []) k1 k2 b = refl
+merge-last (a ∷ c ∷ []) k1 k2 b = refl
+merge-last (a ∷ c ∷ e ∷ l) k1 k2 b = ap (λ (r : List Merged). a ∷ r) (merge-last (c ∷ e ∷ l) k1 k2 b)
+
+merge-few : (l : List Merged) (b : Bar) → length l < 2 → l ++ own b ∷ [] ≡ mergeIn l b
+unfolding mergeIn
+merge-few [] b h = refl
+merge-few (a ∷ []) b h = refl
+merge-few (a ∷ c ∷ l) b h = let w : ⊥ = omega arith in absurd w
+
+two-last : {A : Type 0} (l : List A) (n : ℕ) (z : A) → 2 ≤ n → n ≤ length l → take n l ≡ take (n - 2) l ++ getD l (n - 2) z ∷ getD l (n - 1) z ∷ []
+two-last {A} l n z h k =
+    let i = n - 2 in
+    let e : n ≡ suc (suc i) = omega arith in
+    let f : suc i ≡ n - 1 = omega arith in
+    ap (λ (j : ℕ). take j l) e
+    ∙ take-suc l (suc i) z (omega arith)
+    ∙ ap (λ (x : List A). x ++ getD l (suc i) z ∷ []) (take-suc l i z (omega arith))
+    ∙ append-snoc (take i l) (getD l i z) (getD l (suc i) z ∷ [])
+    ∙ ap (λ (j : ℕ). take i l ++ getD l i z ∷ getD l j z ∷ []) f
+
+module _ (l : List Merged) (n : ℕ) (z : Merged) (b : Bar) (two : 2 ≤ n) (fits : n ≤ length l) where
+  merged-into : mergeIn (take n l) b ≡ take (n - 2) l ++ getD l (n - 2) z ∷ removeInclude (getD l (n - 2) z) (getD l (n - 1) z) b
+  merged-into = ap (λ (x : List Merged). mergeIn x b) (two-last l n z two fits) ∙ merge-last (take (n - 2) l) (getD l (n - 2) z) (getD l (n - 1) z) b
+
+  -- one bar stands in place of the last
+  last-merged : (k : Merged) → k ∷ [] ≡ removeInclude (getD l (n - 2) z) (getD l (n - 1) z) b → take (n - 1) l ++ k ∷ [] ≡ mergeIn (take n l) b
+  last-merged k q =
+      let i = n - 2 in
+      let e : n - 1 ≡ suc i = omega arith in
+      ap (λ (j : ℕ). take j l ++ k ∷ []) e
+      ∙ ap (λ (x : List Merged). x ++ k ∷ []) (take-suc l i z (omega arith))
+      ∙ append-snoc (take i l) (getD l i z) (k ∷ [])
+      ∙ ap (λ (x : List Merged). take i l ++ getD l i z ∷ x) q
+      ∙ sym merged-into
+
+  -- the bar is put behind the last
+  last-apart : (k : Merged) → getD l (n - 1) z ∷ k ∷ [] ≡ removeInclude (getD l (n - 2) z) (getD l (n - 1) z) b → take n l ++ k ∷ [] ≡ mergeIn (take n l) b
+  last-apart k q =
+      let i = n - 2 in
+      ap (λ (x : List Merged). x ++ k ∷ []) (two-last l n z two fits)
+      ∙ append-assoc (take i l) (getD l i z ∷ getD l (n - 1) z ∷ []) (k ∷ [])
+      ∙ ap (λ (x : List Merged). take i l ++ getD l i z ∷ x) q
+      ∙ sym merged-into
+
+-- a bar that is put behind fewer than two has room
+pub few-room : (s : Stand) (m : MergedStore) (b : Bar) → CanMerge s m (mergeIn (keptUnfinished s m) b) → s .unfinished < 2 → s .unfinished < s .rooms .unfinished
+few-room s m b h a =
+    let n = s .unfinished in
+    let room = h .room in
+    let g : length (take n (mergedBars m)) ≡ n = length-take-le n (mergedBars m) (rw (merged-length m (s .rooms .unfinished) (h .unfinished)) (h .fits)) in
+    let e = ap length (merge-few (take n (mergedBars m)) b (rw g a)) in
+    let f = length-append (take n (mergedBars m)) (own b ∷ []) in
+    omega arith
+
+module _ (s r : Stand) (m w : MergedStore) (h : SizedMerged m (s .rooms .unfinished)) (b : Bar) (k : NewBar) where
+  pub own-put : s .unfinished < 2 → s .unfinished < s .rooms .unfinished → mergedOf k ≡ own b → w ≡ setNewBar m (s .unfinished) k → r ≡ withUnfinished s (s .unfinished + 1)
+      → HasUnfinished s r w (mergeIn (keptUnfinished s m) b)
+  own-put a c q f e =
+      let n = s .unfinished in
+      let K = s .rooms .unfinished in
+      let g : length (take n (mergedBars m)) ≡ n = length-take-le n (mergedBars m) (rw (merged-length m K h) (omega arith)) in
+      has-unfinished s r w (setNewBar m n k) (n + 1) (mergeIn (keptUnfinished s m) b) e f (sized-merged-set m n K k h) (omega arith)
+      (merged-appended m n K k h c ∙ ap (λ (x : Merged). take n (mergedBars m) ++ x ∷ []) q ∙ merge-few (take n (mergedBars m)) b (rw g a))
+
+  module _ (high : Float) (k2 : NewBar) (x : Bool) (two : 2 ≤ s .unfinished) (fits : s .unfinished ≤ s .rooms .unfinished)
+      (high-is : high ≡ (barAt (rawPart m) (s .unfinished - 2)) .high) (k2-is : k2 ≡ newBarAt m (s .unfinished - 1))
+      (found : inPlaceOf (mergedOf k2) x (mergedOf k) ≡ removeIncludeAfter high (mergedOf k2) b) where
+    z : Merged
+    z = mergedOf k2
+
+    k2-there : z ≡ getD (mergedBars m) (s .unfinished - 1) z
+    unfolding z
+    k2-there = ap mergedOf k2-is ∙ sym (merged-at m (s .unfinished - 1) z (room-of m (s .rooms .unfinished) (s .unfinished - 1 + 1) h (omega arith)))
+
+    found-there : inPlaceOf z x (mergedOf k) ≡ removeInclude (getD (mergedBars m) (s .unfinished - 2) z) (getD (mergedBars m) (s .unfinished - 1) z) b
+    unfolding z removeInclude removeIncludeAfter mergedOf newBarAt
+    found-there =
+        let p = merged-at m (s .unfinished - 2) z (room-of m (s .rooms .unfinished) (s .unfinished - 2 + 1) h (omega arith)) in
+        found ∙ (λ i. removeIncludeAfter ((high-is ∙ ap (λ (y : Merged). y .bar .high) (sym p)) i) (k2-there i) b)
+
+    pub merged-put : x ≡ true → w ≡ setNewBar m (s .unfinished - 1) k → r ≡ withUnfinished s (s .unfinished) → HasUnfinished s r w (mergeIn (keptUnfinished s m) b)
+    unfolding inPlaceOf
+    merged-put y f e =
+        let n = s .unfinished in
+        let K = s .rooms .unfinished in
+        let v = setNewBar m (n - 1) k in
+        let g : n - 1 + 1 ≡ n = omega arith in
+        has-unfinished s r w v n (mergeIn (keptUnfinished s m) b) e f (sized-merged-set m (n - 1) K k h) fits
+        (ap (λ (j : ℕ). take j (mergedBars v)) (sym g)
+        ∙ merged-appended m (n - 1) K k h (omega arith)
+        ∙ last-merged (mergedBars m) n z b two (rw (merged-length m K h) fits) (mergedOf k) (ap (λ (u : Bool). inPlaceOf z u (mergedOf k)) (sym y) ∙ found-there))
+
+    put-apart : x ≡ false → keptUnfinished s m ++ mergedOf k ∷ [] ≡ mergeIn (keptUnfinished s m) b
+    unfolding inPlaceOf
+    put-apart y =
+        last-apart (mergedBars m) (s .unfinished) z b two (rw (merged-length m (s .rooms .unfinished) h) fits) (mergedOf k)
+        (ap (λ (u : Merged). u ∷ mergedOf k ∷ []) (sym k2-there) ∙ ap (λ (u : Bool). inPlaceOf z u (mergedOf k)) (sym y) ∙ found-there)
+
+    pub apart-room : x ≡ false → length (mergeIn (keptUnfinished s m) b) ≤ s .rooms .unfinished → s .unfinished < s .rooms .unfinished
+    apart-room y a =
+        let g = length-take-le (s .unfinished) (mergedBars m) (rw (merged-length m (s .rooms .unfinished) h) fits) in
+        let e = ap length (put-apart y) in
+        let f = length-append (keptUnfinished s m) (mergedOf k ∷ []) in
+        omega arith
+
+    pub apart-put : x ≡ false → s .unfinished < s .rooms .unfinished → w ≡ setNewBar m (s .unfinished) k → r ≡ withUnfinished s (s .unfinished + 1) → HasUnfinished s r w (mergeIn (keptUnfinished s m) b)
+    apart-put y c f e =
+        let n = s .unfinished in
+        let K = s .rooms .unfinished in
+        has-unfinished s r w (setNewBar m n k) (n + 1) (mergeIn (keptUnfinished s m) b) e f (sized-merged-set m n K k h) (omega arith)
+        (merged-appended m n K k h c ∙ put-apart y)
+
+-- ---- the break
+
+module _ (lo at from i j n : ℕ) (to : lo + i ≡ at) (of : lo + j ≡ from) where
+  -- d after its part from `lo` on, `&mut d[lo..]`, was lent to a move of n rows
+  part-moved : {A : Type 0} (d r : List A) → r ≡ copied (take (length d - lo) (drop lo d)) i (take (length d - lo) (drop lo d)) j n
+      → take lo d ++ (r ++ drop (length d - lo) (drop lo d)) ≡ copied d at d from n
+  unfolding copied
+  part-moved {A} d r e =
+      let D = drop lo d in
+      let whole : take (length d - lo) D ≡ D = take-all (length d - lo) D (rw length-drop (le-refl (length d - lo))) in
+      let none : drop (length d - lo) D ≡ [] = drop-of-length-le D {i = length d - lo} (rw length-drop (le-refl (length d - lo))) in
+      let g : lo + (i + n) ≡ at + n = omega arith in
+      let p : drop j D ≡ drop from d = drop-drop j lo d ∙ ap (λ (y : ℕ). drop y d) of in
+      let q : drop (i + n) D ≡ drop (at + n) d = drop-drop (i + n) lo d ∙ ap (λ (y : ℕ). drop y d) g in
+      ap (λ (x : List A). take lo d ++ (r ++ x)) none
+      ∙ ap (λ (x : List A). take lo d ++ x) (append-nil r ∙ e ∙ ap (λ (x : List A). copied x i x j n) whole)
+      ∙ (λ t. take lo d ++ (take i D ++ take n (p t) ++ q t))
+      ∙ sym (append-assoc (take lo d) (take i D ++ take n (drop from d)) (drop (at + n) d))
+      ∙ ap (λ (x : List A). x ++ drop (at + n) d) (sym (append-assoc (take lo d) (take i D) (take n (drop from d))))
+      ∙ ap (λ (x : List A). x ++ take n (drop from d) ++ drop (at + n) d) (sym (take-add lo i d) ∙ ap (λ (y : ℕ). take y d) to)
+
+  -- the same of every column
+  abbrev partOf : {A : Type 0} → List A → List A
+  partOf d = take (length d - lo) (drop lo d)
+
+  abbrev backIn : {A : Type 0} → List A → List A → List A
+  backIn d r = take lo d ++ (r ++ drop (length d - lo) (drop lo d))
+
+  abbrev partsOf : MergedStore → MergedStore
+  partsOf s = mergedStore (partOf (s .times)) (partOf (s .ids)) (partOf (s .prices)) (partOf (s .counts)) (partOf (s .elements))
+
+  pub parts-moved : (s v : MergedStore) → v ≡ copiedMerged (partsOf s) i (partsOf s) j n
+      → mergedStore (backIn (s .times) (v .times)) (backIn (s .ids) (v .ids)) (backIn (s .prices) (v .prices)) (backIn (s .counts) (v .counts)) (backIn (s .elements) (v .elements)) ≡ copiedMerged s at s from n
+  unfolding copiedMerged copiedRaw
+  parts-moved s v e =
+      λ t. mergedStore (part-moved (s .times) (v .times) (ap (λ (x : MergedStore). x .times) e) t)
+      (part-moved (s .ids) (v .ids) (ap (λ (x : MergedStore). x .ids) e) t)
+      (part-moved (s .prices) (v .prices) (ap (λ (x : MergedStore). x .prices) e) t)
+      (part-moved (s .counts) (v .counts) (ap (λ (x : MergedStore). x .counts) e) t)
+      (part-moved (s .elements) (v .elements) (ap (λ (x : MergedStore). x .elements) e) t)
+
+-- m rows of another list before the rows from place j on of the first n
+joined-rows : {A : Type 0} (l k : List A) (m j n at : ℕ) → j ≤ n → n ≤ length l → m + (n - j) ≤ length l → at + m ≤ length k
+    → take (m + (n - j)) (copied (copied l m l j (n - j)) 0 k at m) ≡ take m (drop at k) ++ drop j (take n l)
+unfolding copied
+joined-rows {A} l k m j n at h b c e =
+    let q = n - j in
+    let d = copied l m l j q in
+    let a : length (take m (drop at k)) ≡ m = length-take-le m (drop at k) (rw length-drop (omega arith)) in
+    let f : j + q ≡ n = omega arith in
+    let g : length (take m l) ≡ m = length-take-le m l (omega arith) in
+    let z = zero-add m in
+    ap (λ (i : ℕ). take (m + q) (take m (drop at k) ++ drop i d)) z
+    ∙ ap (λ (i : ℕ). take (i + q) (take m (drop at k) ++ drop m d)) (sym a)
+    ∙ take-append-add (take m (drop at k)) (drop m d) q
+    ∙ ap (λ (x : List A). take m (drop at k) ++ x)
+    (run-is d m q
+    ∙ ap (drop m) (take-copied l l m j q c (omega arith))
+    ∙ drop-at (take m l) (take q (drop j l)) m g
+    ∙ run-is l j q
+    ∙ ap (λ (i : ℕ). drop j (take i l)) f)
+
+map-both : (l : List Merged) → map (λ b. b .time) (map (λ k. k .bar) l) ≡ map (λ k. k .bar .time) l
+map-both [] = refl
+map-both (k ∷ l) = ap (λ (r : List ℤ). k .bar .time ∷ r) (map-both l)
+
+merged-times : (s : MergedStore) (n : ℕ) → SizedMerged s n → map (λ k. k .bar .time) (mergedBars s) ≡ s .times
+merged-times s n h = sym (map-both (mergedBars s)) ∙ ap (map (λ b. b .time)) (merged-bars s n h) ∙ raw-times (rawPart s) n (h .raw)
+
+module _ (s : Stand) (u k : MergedStore) (at n j : ℕ) (h : CanJoin s u k at n) (place : j ≡ placeOf (getD (k .times) (at + (n - 2)) (pos 0)) (take (s .unfinished) (u .times))) where
+  pub join-place : j ≤ s .unfinished
+  join-place = place-in (getD (k .times) (at + (n - 2)) (pos 0)) (u .times) (s .unfinished) j (rw (h .unfinished .raw .times) (h .fits)) place
+
+  -- what document 01 joins, read off the stores
+  join-reads : joined (storedStroke k at n) (keptUnfinished s u) ≡ take (n - 2) (drop at (mergedBars k)) ++ drop j (keptUnfinished s u)
+  unfolding joined storedStroke strokeWith fromBar from mergedOf newBarAt barAt barOf
+  join-reads =
+      let l = mergedBars k in
+      let x = drop at l in
+      let two = h .two in
+      let within = h .within in
+      let g : n - 1 - 1 ≡ n - 2 = omega arith in
+      let y : length l ≡ s .rooms .strokes = merged-length k (s .rooms .strokes) (h .strokes) in
+      let f : n ≤ length x = rw length-drop (omega arith) in
+      let z = mergedOf (newBarAt k 0) in
+      let t = getD (k .times) (at + (n - 2)) (pos 0) in
+      let p : init (take n x) ≡ take (n - 1) x = init-take n x (omega arith) f in
+      let q : init (init (take n x)) ≡ take (n - 2) x = ap init p ∙ init-take (n - 1) x (omega arith) (omega arith) ∙ ap (λ (i : ℕ). take i x) g in
+      let e : last (init (take n x)) ≡ some (getD l (at + (n - 2)) z) =
+      ap last p ∙ last-take (n - 1) x z (omega arith) (omega arith) ∙ ap (λ (i : ℕ). some (getD x i z)) g ∙ ap some (getD-drop at l (n - 2) z) in
+      let v : (getD l (at + (n - 2)) z) .bar .time ≡ t =
+      ap (λ (a : Merged). a .bar .time) (merged-at k (at + (n - 2)) z (room-of k (s .rooms .strokes) (at + (n - 2) + 1) (h .strokes) (omega arith))) in
+      (λ i. q i ++ fromBar (e i) (keptUnfinished s u))
+      ∙ ap (λ (a : ℤ). take (n - 2) x ++ from a (keptUnfinished s u)) v
+      ∙ ap (λ (a : List Merged). take (n - 2) x ++ a) (passed (λ b. b .bar .time) t (mergedBars u) (u .times) (s .unfinished) j (merged-times u (s .rooms .unfinished) (h .unfinished)) place)
+
+  pub join-room : n - 2 + (s .unfinished - j) ≤ s .rooms .unfinished
+  join-room =
+      let l = mergedBars k in
+      let two = h .two in
+      let within = h .within in
+      let y : length l ≡ s .rooms .strokes = merged-length k (s .rooms .strokes) (h .strokes) in
+      let f : n - 2 ≤ length (drop at l) = rw length-drop (omega arith) in
+      let p = length-take-le (n - 2) (drop at l) f in
+      let q : length (keptUnfinished s u) ≡ s .unfinished = length-take-le (s .unfinished) (mergedBars u) (rw (merged-length u (s .rooms .unfinished) (h .unfinished)) (h .fits)) in
+      let d = length-drop j (keptUnfinished s u) in
+      let e = ap length join-reads ∙ length-append (take (n - 2) (drop at l)) (drop j (keptUnfinished s u)) in
+      let r = h .room in
+      omega arith
+
+  -- the store that the rest was brought in has room for the stroke's bars
+  pub join-after : (w : MergedStore) → w ≡ copiedMerged u (n - 2) u j (s .unfinished - j) → RoomMerged w (0 + (n - 2))
+  join-after w e =
+      let K = s .rooms .unfinished in
+      let fits = h .fits in
+      let jn = join-place in
+      let jr = join-room in
+      room-of w K (0 + (n - 2)) (subst (λ (x : MergedStore). SizedMerged x K) (sym e) (sized-merged-copied u u (n - 2) j (s .unfinished - j) K K (h .unfinished) (h .unfinished) jr (omega arith))) (omega arith)
+
+  pub was-joined : (r : Stand) (w : MergedStore) → w ≡ copiedMerged (copiedMerged u (n - 2) u j (s .unfinished - j)) 0 k at (n - 2) → r ≡ withUnfinished (withoutLast s) (n - 2 + (s .unfinished - j))
+      → HasUnfinished (withoutLast s) r w (joined (storedStroke k at n) (keptUnfinished s u))
+  unfolding withoutLast
+  was-joined r w f e =
+      let K = s .rooms .unfinished in
+      let S = s .rooms .strokes in
+      let m = n - 2 in
+      let i = s .unfinished - j in
+      let two = h .two in
+      let within = h .within in
+      let fits = h .fits in
+      let jn = join-place in
+      let jr = join-room in
+      let first = sized-merged-copied u u m j i K K (h .unfinished) (h .unfinished) (omega arith) (omega arith) in
+      let z = zero-add m in
+      has-unfinished (withoutLast s) r w (copiedMerged (copiedMerged u m u j i) 0 k at m) (m + i) (joined (storedStroke k at n) (keptUnfinished s u)) e f
+      (sized-merged-copied (copiedMerged u m u j i) k 0 at m K S first (h .strokes) (omega arith) (omega arith))
+      jr
+      (ap (take (m + i)) (merged-copied (copiedMerged u m u j i) k 0 at m K S first (h .strokes) ∙ ap (λ (x : List Merged). copied x 0 (mergedBars k) at m) (merged-copied u u m j i K K (h .unfinished) (h .unfinished)))
+      ∙ joined-rows (mergedBars u) (mergedBars k) m j (s .unfinished) at jn (rw (merged-length u K (h .unfinished)) fits) (rw (merged-length u K (h .unfinished)) jr) (rw (merged-length k S (h .strokes)) (omega arith))
+      ∙ sym join-reads)

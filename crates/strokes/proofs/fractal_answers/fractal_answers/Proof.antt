@@ -1,0 +1,21 @@
+use Rattle.strokes.specs.FractalAnswers.{answersOf}
+use borrow.Author.Needs.{needs}
+use Rattle.strokes.proofs.fractal_answers.fractal_answers.Statement.{statement}
+use Rattle.strokes.proofs.fractal_answers.fractal_answers.Tie as tie
+
+power-str-requires : tie.Need-power-str-requires
+power-str-requires c κs = search needs
+
+power-volume-requires : tie.Need-power-volume-requires
+power-volume-requires c κs = search needs
+
+has-zs-requires : tie.Need-has-zs-requires
+has-zs-requires c κs = search needs
+
+returns : tie.Need-returns
+unfolding answersOf
+returns c = rw (c .before .before .power-str .ensures, c .before .power-volume .ensures, c .has-zs .ensures)
+
+pub fractal-answers-spec : {M : Type 1} → statement M
+fractal-answers-spec =
+    tie.close (tie.spec power-str-requires power-volume-requires has-zs-requires returns)

@@ -1,0 +1,12 @@
+use Rattle.strokes.specs.StrokeStore.{plainBar}
+use Rattle.strokes.specs.Scan.{candleOf}
+use borrow.Author.Needs.{needs}
+use Rattle.strokes.proofs.strokes_store.candle_of.Statement.{statement}
+use Rattle.strokes.proofs.strokes_store.candle_of.Tie as tie
+
+returns : tie.Need-returns
+unfolding candleOf plainBar
+returns c = search needs
+
+pub candle-of-spec : {M : Type 1} → statement M
+candle-of-spec = tie.close (tie.spec returns)

@@ -1,0 +1,50 @@
+use Rattle.strokes.proofs.StoredStrokes.{row-top}
+use Rattle.strokes.specs.Strokes.{directionOf}
+use mathlib.Core.Bool.{true, false}
+use mathlib.Core.Path.{ap, sym}
+use borrow.Author.Needs.{needs}
+use Rattle.strokes.proofs.strokes_store.row_direction.Statement.{statement}
+use Rattle.strokes.proofs.strokes_store.row_direction.Tie as tie
+
+array-read-t8 : tie.Need-array-read-t8
+array-read-t8 c = search needs
+
+array-read-t11 : tie.Need-array-read-t11
+array-read-t11 c = search needs
+
+array-read-t8-2 : tie.Need-array-read-t8-2
+array-read-t8-2 c = search needs
+
+array-read-t11-2 : tie.Need-array-read-t11-2
+array-read-t11-2 c = search needs
+
+array-read-t8-3 : tie.Need-array-read-t8-3
+array-read-t8-3 c = search needs
+
+array-read-t11-3 : tie.Need-array-read-t11-3
+array-read-t11-3 c = search needs
+
+is-top-requires : tie.Need-is-top-requires
+is-top-requires c κs = search needs
+
+returns : tie.Need-returns
+unfolding directionOf
+returns c = sym (ap directionOf (row-top (c .before .before .args .t1) _ _ _ _ true (c .before .is-top .ensures) (c .if1 .taken)))
+
+returns-2 : tie.Need-returns-2
+unfolding directionOf
+returns-2 c = sym (ap directionOf (row-top (c .before .before .args .t1) _ _ _ _ false (c .before .is-top .ensures) (c .if1 .left)))
+
+pub row-direction-spec : {M : Type 1} → statement M
+row-direction-spec =
+    tie.close
+    (tie.spec
+    array-read-t8
+    array-read-t11
+    array-read-t8-2
+    array-read-t11-2
+    array-read-t8-3
+    array-read-t11-3
+    is-top-requires
+    returns
+    returns-2)

@@ -1,0 +1,68 @@
+// The writing steps of a feed on the raw store.
+ghost use mathlib.Core.Path.{_≡_};
+ghost use mathlib.Core.Bool.{true, false};
+ghost use Prim.Native.Nat.{_<_, _≤_};
+ghost use lib.ListN.{length, take};
+ghost use lib.Signed.{ltZ};
+ghost use Rattle.bars.specs.Lists.{skipWhile};
+ghost use Rattle.bars.specs.Stores.{rawStore, SizedRaw, placeOf};
+ghost use Rattle.strokes.specs.Feed.{rawWith};
+ghost use Rattle.strokes.specs.StoreSteps.{HasRaw, keptRaw, rawOnly};
+use crate::Stand;
+use bars::Bar;
+
+// How many of the first n times come before the first one that is not before t: the raw bars to drop, and the unfinished bars that
+// joining leaves out. What is dropped is passed once and no more, so that a feed's share is a constant.
+pub fn count_before(times: &[i64], n: usize, t: i64) -> usize
+    requires { ⌜ n ≤ length (now times) ⌝ }
+    ensures { λ r. ⌜ r ≡ placeOf t (take n (now (times .entry))) ⌝ }
+{
+    let mut i: usize = 0;
+    while i < n {
+        if times[i] < t {
+            i += 1;
+        } else {
+            return i;
+        }
+    }
+    n
+}
+
+impl Stand {
+    // A later bar is put behind the last one, and one that is not later stands in place of the last.
+    pub fn put_raw(
+        self,
+        rt: &mut [i64],
+        ri: &mut [i32],
+        rp: &mut [[f64; 6]],
+        later: bool,
+        b: Bar,
+    ) -> Stand
+        requires { ⌜ SizedRaw (rawStore (now rt) (now ri) (now rp)) (self .rooms .raw) ⌝ ∗ ⌜ self .raw ≤ self .rooms .raw ⌝ ∗ ⌜ (later ≡ true → self .raw < self .rooms .raw) ⌝ ∗ ⌜ (later ≡ false → 1 ≤ self .raw) ⌝ }
+        ensures { λ r. ⌜ HasRaw self r (rawStore (now (rt .exit)) (now (ri .exit)) (now (rp .exit))) (rawWith later (rawOnly (keptRaw self (rawStore (now (rt .entry)) (now (ri .entry)) (now (rp .entry))))) b) ⌝ }
+    {
+        let n = self.raw;
+        let mut stand = self;
+        if later {
+            bars::write_bar(rt, ri, rp, n, b);
+            stand.raw = n + 1;
+            return stand;
+        }
+        bars::write_bar(rt, ri, rp, n - 1, b);
+        stand
+    }
+
+    // The raw bars earlier than t are dropped, and the others begin the store.
+    pub fn drop_raw(self, rt: &mut [i64], ri: &mut [i32], rp: &mut [[f64; 6]], t: i64) -> Stand
+        requires { ⌜ SizedRaw (rawStore (now rt) (now ri) (now rp)) (self .rooms .raw) ⌝ ∗ ⌜ self .raw ≤ self .rooms .raw ⌝ }
+        ensures { λ r. ⌜ HasRaw self r (rawStore (now (rt .exit)) (now (ri .exit)) (now (rp .exit))) (skipWhile (λ k. ltZ (k .time) t) (keptRaw self (rawStore (now (rt .entry)) (now (ri .entry)) (now (rp .entry))))) ⌝ }
+    {
+        let n = self.raw;
+        let k = count_before(rt, n, t);
+        let left = n - k;
+        bars::move_bars_down(rt, ri, rp, k, 0, left);
+        let mut stand = self;
+        stand.raw = left;
+        stand
+    }
+}

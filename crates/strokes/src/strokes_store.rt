@@ -1,0 +1,478 @@
+// The lent store of strokes: the merged bars of the kept strokes, oldest first, and their fractals.
+ghost use mathlib.Core.Path.{_≡_};
+ghost use Prim.Native.Nat.{_+_, _-_, _*_, _/_, _≤_, _<_};
+ghost use mathlib.Core.List.{[], _∷_, _++_};
+ghost use lib.ListN.{length, take, drop};
+ghost use Rattle.bars.specs.Stores.{rawStore, mergedStore, RoomRaw, RoomMerged, copied, copiedMerged};
+ghost use Rattle.strokes.specs.Stored.{fractalStore, barCounts, fractalCounts, total};
+ghost use Rattle.strokes.specs.Fractals.{taken};
+ghost use Rattle.strokes.specs.Strokes.{directionOf};
+ghost use Rattle.strokes.specs.Scan.{candleOf};
+ghost use Rattle.strokes.specs.StrokeStore.{setFractal, RoomFractals, plainBar, fractalsOf, putFractals, lastOf, writing, putFractal, putWindow};
+ghost use Rattle.strokes.specs.StrokeStore.{rowMark, LastStands, lastRead, withoutLast, Kept, Makeable, Made, ShedWhere, copiedFractals, shifted, shedStand, withStroke, windowsEnd};
+ghost use mathlib.Core.Bool.{true};
+ghost use lib.Dec.{ltb};
+use crate::Direction;
+use crate::Mark;
+use crate::Stand;
+use crate::scan;
+use crate::scan::Candle;
+use bars::Bar;
+
+// The fractals that have been written: how many, and the last one's mark.
+pub struct Written {
+    pub count: usize,
+    pub last: Mark,
+}
+
+// What the break test asks of the last stroke: the higher high and the lower low of its end fractals, its
+// direction, how many bars it has, the time of its last bar but one, and the place where its bars begin.
+pub struct LastStroke {
+    pub high: f64,
+    pub low: f64,
+    pub direction: Direction,
+    pub bars: usize,
+    pub time: i64,
+    pub place: usize,
+}
+
+// ---- the fractals of a run of bars
+
+// An id as a stamp.
+fn widened(id: i32) -> i64
+    ensures { λ r. ⌜ r ≡ id ⌝ }
+{
+    id as i64
+}
+
+// The rows of the fractal of these three bars.
+fn write_fractal(fs: &mut [[i64; 6]], fp: &mut [[f64; 18]], at: usize, a: Bar, b: Bar, c: Bar)
+    requires { ⌜ RoomFractals (fractalStore (now fs) (now fp)) (at + 1) ⌝ }
+    ensures { λ _. ⌜ (fractalStore (now (fs .exit)) (now (fp .exit))) ≡ setFractal (fractalStore (now (fs .entry)) (now (fp .entry))) at a b c ⌝ }
+{
+    let t = a.time;
+    let u = b.time;
+    let v = c.time;
+    let i = widened(a.id);
+    let j = widened(b.id);
+    let k = widened(c.id);
+    fs[at] = [t, u, v, i, j, k];
+    fp[at] = [
+        a.open,
+        a.close,
+        a.high,
+        a.low,
+        a.vol,
+        a.amount,
+        b.open,
+        b.close,
+        b.high,
+        b.low,
+        b.vol,
+        b.amount,
+        c.open,
+        c.close,
+        c.high,
+        c.low,
+        c.vol,
+        c.amount,
+    ];
+}
+
+// Of a bar, what fractals are found by.
+fn candle_of(b: Bar) -> Candle
+    ensures { λ r. ⌜ r ≡ candleOf (plainBar b) ⌝ }
+{
+    Candle {
+        time: b.time,
+        high: b.high,
+        low: b.low,
+    }
+}
+
+// Whether a fractal of mark m is taken.
+fn is_taken(w: Written, m: Mark) -> bool
+    ensures { λ r. ⌜ r ≡ taken (lastOf w) m ⌝ }
+{
+    let last = w.last;
+    if w.count == 0 {
+        return true;
+    }
+    !scan::same_mark(last, m)
+}
+
+// The fractal of mark m, unless the last one taken has this mark.
+fn put_fractal(
+    fs: &mut [[i64; 6]],
+    fp: &mut [[f64; 18]],
+    at: usize,
+    w: Written,
+    m: Mark,
+    a: Bar,
+    b: Bar,
+    c: Bar,
+) -> Written
+    requires { ⌜ RoomFractals (fractalStore (now fs) (now fp)) (at + w .count + 1) ⌝ }
+    ensures { λ r. ⌜ writing (now (fs .exit)) (now (fp .exit)) r ≡ putFractal (writing (now (fs .entry)) (now (fp .entry)) w) at m a b c ⌝ }
+{
+    if is_taken(w, m) {
+        let n = w.count;
+        write_fractal(fs, fp, at + n, a, b, c);
+        return Written {
+            count: n + 1,
+            last: m,
+        };
+    }
+    w
+}
+
+// The window of these three bars.
+fn put_window(
+    fs: &mut [[i64; 6]],
+    fp: &mut [[f64; 18]],
+    at: usize,
+    w: Written,
+    a: Bar,
+    b: Bar,
+    c: Bar,
+) -> Written
+    requires { ⌜ RoomFractals (fractalStore (now fs) (now fp)) (at + w .count + 1) ⌝ }
+    ensures { λ r. ⌜ writing (now (fs .exit)) (now (fp .exit)) r ≡ putWindow (writing (now (fs .entry)) (now (fp .entry)) w) at a b c ⌝ }
+{
+    let x = candle_of(a);
+    let y = candle_of(b);
+    let z = candle_of(c);
+    if scan::is_top(x, y, z) {
+        let m = Mark::G;
+        return put_fractal(fs, fp, at, w, m, a, b, c);
+    }
+    if scan::is_bottom(x, y, z) {
+        let m = Mark::D;
+        return put_fractal(fs, fp, at, w, m, a, b, c);
+    }
+    w
+}
+
+// check_fxs of the bars from place `first` on and before place `end`, written from place `at` on: how many there are.
+pub fn write_fractals(
+    ut: &[i64],
+    ui: &[i32],
+    up: &[[f64; 6]],
+    first: usize,
+    end: usize,
+    fs: &mut [[i64; 6]],
+    fp: &mut [[f64; 18]],
+    at: usize,
+) -> usize
+    requires { ⌜ first ≤ end ⌝ ∗ ⌜ RoomRaw (rawStore (now ut) (now ui) (now up)) end ⌝ ∗ ⌜ RoomFractals (fractalStore (now fs) (now fp)) (at + (end - first) - 2) ⌝ }
+    ensures { λ r. ⌜ (r ≡ length (fractalsOf (rawStore (now (ut .entry)) (now (ui .entry)) (now (up .entry))) first end)) × ((fractalStore (now (fs .exit)) (now (fp .exit))) ≡ putFractals (fractalStore (now (fs .entry)) (now (fp .entry))) at (fractalsOf (rawStore (now (ut .entry)) (now (ui .entry)) (now (up .entry))) first end)) ⌝ }
+{
+    let last = Mark::D;
+    let mut w = Written { count: 0, last };
+    let mut i = first;
+    while i + 2 < end {
+        let a = bars::read_bar(ut, ui, up, i);
+        let b = bars::read_bar(ut, ui, up, i + 1);
+        let c = bars::read_bar(ut, ui, up, i + 2);
+        w = put_window(fs, fp, at, w, a, b, c);
+        i += 1;
+    }
+    w.count
+}
+
+// ---- the counts of the kept strokes
+
+// The first n numbers of bars, added up: where the next stroke begins.
+pub fn total_bars(counts: [usize; 65], n: usize) -> usize
+    requires { ⌜ n ≤ 65 ⌝ ∗ ⌜ total (take n counts) < 9223372036854775808 ⌝ }
+    ensures { λ r. ⌜ r ≡ total (take n counts) ⌝ }
+{
+    let mut sum: usize = 0;
+    let mut i: usize = 0;
+    while i < n {
+        let count = counts[i];
+        sum += count;
+        i += 1;
+    }
+    sum
+}
+
+// All counts one place down.
+fn one_down(counts: [usize; 65]) -> [usize; 65]
+    ensures { λ r. ⌜ r ≡ shifted counts ⌝ }
+{
+    let mut r = counts;
+    let mut i: usize = 0;
+    while i < 64 {
+        let count = r[i + 1];
+        r[i] = count;
+        i += 1;
+    }
+    r
+}
+
+// The stand without its oldest stroke.
+fn shed_counts(stand: Stand) -> Stand
+    requires { ⌜ (1 ≤ stand .strokes) × (stand .strokes ≤ 65) ⌝ }
+    ensures { λ r. ⌜ (r ≡ shedStand stand) × (barCounts r ≡ drop 1 (barCounts stand)) × (fractalCounts r ≡ drop 1 (fractalCounts stand)) ⌝ }
+{
+    let bars = stand.bars;
+    let fractals = stand.fractals;
+    let rooms = stand.rooms;
+    let b = one_down(bars);
+    let f = one_down(fractals);
+    Stand {
+        minimum: stand.minimum,
+        most: stand.most,
+        rooms: rooms,
+        raw: stand.raw,
+        unfinished: stand.unfinished,
+        strokes: stand.strokes - 1,
+        bars: b,
+        fractals: f,
+    }
+}
+
+// The stand with one stroke more.
+fn with_stroke(stand: Stand, n: usize, m: usize) -> Stand
+    requires { ⌜ stand .strokes ≤ 64 ⌝ }
+    ensures { λ r. ⌜ (r ≡ withStroke stand n m) × (barCounts r ≡ barCounts stand ++ n ∷ []) × (fractalCounts r ≡ fractalCounts stand ++ m ∷ []) × (length (barCounts stand) ≡ length (fractalCounts stand)) ⌝ }
+{
+    let mut bars = stand.bars;
+    let mut fractals = stand.fractals;
+    let rooms = stand.rooms;
+    let at = stand.strokes;
+    bars[at] = n;
+    fractals[at] = m;
+    Stand {
+        minimum: stand.minimum,
+        most: stand.most,
+        rooms: rooms,
+        raw: stand.raw,
+        unfinished: stand.unfinished,
+        strokes: at + 1,
+        bars: bars,
+        fractals: fractals,
+    }
+}
+
+// ---- the oldest stroke is shed
+
+// n rows of a column of fractals from place `from` down to place `at`, the first row first.
+fn down_stamps(s: &mut [[i64; 6]], from: usize, at: usize, n: usize)
+    requires { ⌜ (at ≤ from) × (from + n ≤ length (now s)) ⌝ }
+    ensures { λ _. ⌜ now (s .exit) ≡ copied (now (s .entry)) at (now (s .entry)) from n ⌝ }
+{
+    let mut i: usize = 0;
+    while i < n {
+        let row = s[from + i];
+        s[at + i] = row;
+        i += 1;
+    }
+}
+
+fn down_fractal_prices(s: &mut [[f64; 18]], from: usize, at: usize, n: usize)
+    requires { ⌜ (at ≤ from) × (from + n ≤ length (now s)) ⌝ }
+    ensures { λ _. ⌜ now (s .exit) ≡ copied (now (s .entry)) at (now (s .entry)) from n ⌝ }
+{
+    let mut i: usize = 0;
+    while i < n {
+        let row = s[from + i];
+        s[at + i] = row;
+        i += 1;
+    }
+}
+
+// All rows from place `from` on, n of them, to the beginning.
+fn move_strokes_down(
+    st: &mut [i64],
+    si: &mut [i32],
+    sp: &mut [[f64; 6]],
+    sc: &mut [usize],
+    se: &mut [[i64; 101]],
+    fs: &mut [[i64; 6]],
+    fp: &mut [[f64; 18]],
+    from: usize,
+    n: usize,
+)
+    requires { ⌜ RoomMerged (mergedStore (now st) (now si) (now sp) (now sc) (now se)) (from + n) ⌝ ∗ ⌜ RoomFractals (fractalStore (now fs) (now fp)) (from + n) ⌝ }
+    ensures { λ _. ⌜ ((mergedStore (now (st .exit)) (now (si .exit)) (now (sp .exit)) (now (sc .exit)) (now (se .exit))) ≡ copiedMerged (mergedStore (now (st .entry)) (now (si .entry)) (now (sp .entry)) (now (sc .entry)) (now (se .entry))) 0 (mergedStore (now (st .entry)) (now (si .entry)) (now (sp .entry)) (now (sc .entry)) (now (se .entry))) from n) × ((fractalStore (now (fs .exit)) (now (fp .exit))) ≡ copiedFractals (fractalStore (now (fs .entry)) (now (fp .entry))) 0 (fractalStore (now (fs .entry)) (now (fp .entry))) from n) ⌝ }
+{
+    bars::move_new_bars_down(st, si, sp, sc, se, from, 0, n);
+    down_stamps(fs, from, 0, n);
+    down_fractal_prices(fp, from, 0, n);
+}
+
+// The oldest stroke goes, and its bars and fractals with it.
+pub fn shed(
+    stand: Stand,
+    st: &mut [i64],
+    si: &mut [i32],
+    sp: &mut [[f64; 6]],
+    sc: &mut [usize],
+    se: &mut [[i64; 101]],
+    fs: &mut [[i64; 6]],
+    fp: &mut [[f64; 18]],
+) -> Stand
+    requires { ⌜ 1 ≤ stand .strokes ⌝ ∗ ⌜ Kept stand (mergedStore (now st) (now si) (now sp) (now sc) (now se)) (fractalStore (now fs) (now fp)) ⌝ }
+    ensures { λ r. ⌜ ShedWhere true stand (mergedStore (now (st .entry)) (now (si .entry)) (now (sp .entry)) (now (sc .entry)) (now (se .entry))) (fractalStore (now (fs .entry)) (now (fp .entry))) r (mergedStore (now (st .exit)) (now (si .exit)) (now (sp .exit)) (now (sc .exit)) (now (se .exit))) (fractalStore (now (fs .exit)) (now (fp .exit))) ⌝ }
+{
+    let bars = stand.bars;
+    let n = stand.strokes;
+    let used = total_bars(bars, n);
+    let first = bars[0];
+    move_strokes_down(st, si, sp, sc, se, fs, fp, first, used - first);
+    shed_counts(stand)
+}
+
+// The oldest stroke beyond the most goes.
+pub fn shed_if(
+    stand: Stand,
+    st: &mut [i64],
+    si: &mut [i32],
+    sp: &mut [[f64; 6]],
+    sc: &mut [usize],
+    se: &mut [[i64; 101]],
+    fs: &mut [[i64; 6]],
+    fp: &mut [[f64; 18]],
+) -> Stand
+    requires { ⌜ Kept stand (mergedStore (now st) (now si) (now sp) (now sc) (now se)) (fractalStore (now fs) (now fp)) ⌝ }
+    ensures { λ r. ⌜ ShedWhere (ltb (stand .most) (stand .strokes)) stand (mergedStore (now (st .entry)) (now (si .entry)) (now (sp .entry)) (now (sc .entry)) (now (se .entry))) (fractalStore (now (fs .entry)) (now (fp .entry))) r (mergedStore (now (st .exit)) (now (si .exit)) (now (sp .exit)) (now (sc .exit)) (now (se .exit))) (fractalStore (now (fs .exit)) (now (fp .exit))) ⌝ }
+{
+    if stand.most < stand.strokes {
+        return shed(stand, st, si, sp, sc, se, fs, fp);
+    }
+    stand
+}
+
+// ---- a stroke is made
+
+// Where the windows of a stroke's fractals end.
+fn windows_end(first: usize, bars: usize, n: usize) -> usize
+    requires { ⌜ first + bars ≤ n ⌝ }
+    ensures { λ r. ⌜ r ≡ windowsEnd first bars n ⌝ }
+{
+    let end = first + bars;
+    if end < n {
+        return end + 1;
+    }
+    end
+}
+
+// The unfinished bars from place `first` on, so many, become a stroke: they and their fractals are put behind those of the kept strokes.
+pub fn make_stroke(
+    stand: Stand,
+    ut: &[i64],
+    ui: &[i32],
+    up: &[[f64; 6]],
+    uc: &[usize],
+    ue: &[[i64; 101]],
+    st: &mut [i64],
+    si: &mut [i32],
+    sp: &mut [[f64; 6]],
+    sc: &mut [usize],
+    se: &mut [[i64; 101]],
+    fs: &mut [[i64; 6]],
+    fp: &mut [[f64; 18]],
+    first: usize,
+    bars: usize,
+) -> Stand
+    requires { ⌜ Makeable stand (mergedStore (now ut) (now ui) (now up) (now uc) (now ue)) first bars ⌝ ∗ ⌜ Kept stand (mergedStore (now st) (now si) (now sp) (now sc) (now se)) (fractalStore (now fs) (now fp)) ⌝ }
+    ensures { λ r. ⌜ Made stand (mergedStore (now (ut .entry)) (now (ui .entry)) (now (up .entry)) (now (uc .entry)) (now (ue .entry))) (mergedStore (now (st .entry)) (now (si .entry)) (now (sp .entry)) (now (sc .entry)) (now (se .entry))) (fractalStore (now (fs .entry)) (now (fp .entry))) first bars r (mergedStore (now (st .exit)) (now (si .exit)) (now (sp .exit)) (now (sc .exit)) (now (se .exit))) (fractalStore (now (fs .exit)) (now (fp .exit))) ⌝ }
+{
+    let counts = stand.bars;
+    let k = stand.strokes;
+    let n = stand.unfinished;
+    let used = total_bars(counts, k);
+    let end = windows_end(first, bars, n);
+    bars::join_new_bars(ut, ui, up, uc, ue, first, st, si, sp, sc, se, used, bars);
+    let m = write_fractals(ut, ui, up, first, end, fs, fp, used);
+    with_stroke(stand, bars, m)
+}
+
+// ---- the last stroke
+
+// The way of a stroke that starts on the fractal of this row.
+fn row_direction(p: [f64; 18]) -> Direction
+    ensures { λ r. ⌜ r ≡ directionOf (rowMark p) ⌝ }
+{
+    let x = Candle {
+        time: 0,
+        high: p[2],
+        low: p[3],
+    };
+    let y = Candle {
+        time: 0,
+        high: p[8],
+        low: p[9],
+    };
+    let z = Candle {
+        time: 0,
+        high: p[14],
+        low: p[15],
+    };
+    if scan::is_top(x, y, z) {
+        return Direction::Down;
+    }
+    Direction::Up
+}
+
+// Which of a stroke's m fractals is its end: the last, or the last but one where they are odd in number.
+fn end_index(m: usize) -> usize
+    ensures { λ r. ⌜ r ≡ 2 * (m / 2) - 1 ⌝ }
+{
+    let half = m / 2;
+    if half == 0 {
+        return 0;
+    }
+    2 * half - 1
+}
+
+pub fn last_stroke(stand: Stand, st: &[i64], fp: &[[f64; 18]]) -> LastStroke
+    requires { ⌜ LastStands stand (length (now st)) ⌝ ∗ ⌜ length (now fp) ≡ length (now st) ⌝ }
+    ensures { λ r. ⌜ r ≡ lastRead stand (now (st .entry)) (now (fp .entry)) ⌝ }
+{
+    let counts = stand.bars;
+    let fractals = stand.fractals;
+    let n = stand.strokes - 1;
+    let place = total_bars(counts, n);
+    let bars = counts[n];
+    let m = fractals[n];
+    let e = end_index(m);
+    let i = place + e;
+    let j = place + bars - 2;
+    let a = fp[place];
+    let b = fp[i];
+    let time = st[j];
+    let high = arith::max(a[8], b[8]);
+    let low = arith::min(a[9], b[9]);
+    let direction = row_direction(a);
+    LastStroke {
+        high,
+        low,
+        direction,
+        bars,
+        time,
+        place,
+    }
+}
+
+// The last stroke goes. Its rows stay where they are, and count no more.
+pub fn without_last(stand: Stand) -> Stand
+    requires { ⌜ 1 ≤ stand .strokes ⌝ }
+    ensures { λ r. ⌜ r ≡ withoutLast stand ⌝ }
+{
+    let bars = stand.bars;
+    let fractals = stand.fractals;
+    let rooms = stand.rooms;
+    Stand {
+        minimum: stand.minimum,
+        most: stand.most,
+        rooms: rooms,
+        raw: stand.raw,
+        unfinished: stand.unfinished,
+        strokes: stand.strokes - 1,
+        bars: bars,
+        fractals: fractals,
+    }
+}

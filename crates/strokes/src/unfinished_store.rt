@@ -1,0 +1,239 @@
+// The writing steps of a feed on the unfinished store.
+ghost use mathlib.Core.Path.{_≡_};
+ghost use mathlib.Core.List.{[], _∷_};
+ghost use Prim.Native.Nat.{_+_, _≤_};
+ghost use lib.ListN.{drop};
+ghost use Rattle.bars.specs.Stores.{rawStore, mergedStore, SizedMerged, RoomMerged, copiedMerged};
+ghost use Rattle.bars.specs.Merging.{mergeIn, mergeAll, atTimes};
+ghost use Rattle.strokes.specs.Break.{joined};
+ghost use Rattle.strokes.specs.StoreSteps.{HasUnfinished, CanMerge, RisingRaw, LastHas, CanJoin, mergedAgain, keptRaw, keptUnfinished, withoutLast, storedStroke};
+use crate::Stand;
+use crate::count_before;
+use bars::Bar;
+
+// The n bars from place `from` on to place `at`, which is not behind it: the part of each column from `at` on is lent to the mover.
+fn bring_down(
+    ut: &mut [i64],
+    ui: &mut [i32],
+    up: &mut [[f64; 6]],
+    uc: &mut [usize],
+    ue: &mut [[i64; 101]],
+    from: usize,
+    at: usize,
+    n: usize,
+)
+    requires { ⌜ at ≤ from ⌝ ∗ ⌜ RoomMerged (mergedStore (now ut) (now ui) (now up) (now uc) (now ue)) (from + n) ⌝ }
+    ensures { λ _. ⌜ (mergedStore (now (ut .exit)) (now (ui .exit)) (now (up .exit)) (now (uc .exit)) (now (ue .exit))) ≡ copiedMerged (mergedStore (now (ut .entry)) (now (ui .entry)) (now (up .entry)) (now (uc .entry)) (now (ue .entry))) at (mergedStore (now (ut .entry)) (now (ui .entry)) (now (up .entry)) (now (uc .entry)) (now (ue .entry))) from n ⌝ }
+{
+    bars::move_new_bars_down(
+        &mut ut[at..],
+        &mut ui[at..],
+        &mut up[at..],
+        &mut uc[at..],
+        &mut ue[at..],
+        from - at,
+        0,
+        n,
+    );
+}
+
+// The same where `at` is not before `from`: the part of each column from `from` on is lent.
+fn bring_up(
+    ut: &mut [i64],
+    ui: &mut [i32],
+    up: &mut [[f64; 6]],
+    uc: &mut [usize],
+    ue: &mut [[i64; 101]],
+    from: usize,
+    at: usize,
+    n: usize,
+)
+    requires { ⌜ from ≤ at ⌝ ∗ ⌜ RoomMerged (mergedStore (now ut) (now ui) (now up) (now uc) (now ue)) (at + n) ⌝ }
+    ensures { λ _. ⌜ (mergedStore (now (ut .exit)) (now (ui .exit)) (now (up .exit)) (now (uc .exit)) (now (ue .exit))) ≡ copiedMerged (mergedStore (now (ut .entry)) (now (ui .entry)) (now (up .entry)) (now (uc .entry)) (now (ue .entry))) at (mergedStore (now (ut .entry)) (now (ui .entry)) (now (up .entry)) (now (uc .entry)) (now (ue .entry))) from n ⌝ }
+{
+    bars::move_new_bars_up(
+        &mut ut[from..],
+        &mut ui[from..],
+        &mut up[from..],
+        &mut uc[from..],
+        &mut ue[from..],
+        0,
+        at - from,
+        n,
+    );
+}
+
+// The same wherever `at` is.
+fn bring(
+    ut: &mut [i64],
+    ui: &mut [i32],
+    up: &mut [[f64; 6]],
+    uc: &mut [usize],
+    ue: &mut [[i64; 101]],
+    from: usize,
+    at: usize,
+    n: usize,
+)
+    requires { ⌜ RoomMerged (mergedStore (now ut) (now ui) (now up) (now uc) (now ue)) (from + n) ⌝ ∗ ⌜ RoomMerged (mergedStore (now ut) (now ui) (now up) (now uc) (now ue)) (at + n) ⌝ }
+    ensures { λ _. ⌜ (mergedStore (now (ut .exit)) (now (ui .exit)) (now (up .exit)) (now (uc .exit)) (now (ue .exit))) ≡ copiedMerged (mergedStore (now (ut .entry)) (now (ui .entry)) (now (up .entry)) (now (uc .entry)) (now (ue .entry))) at (mergedStore (now (ut .entry)) (now (ui .entry)) (now (up .entry)) (now (uc .entry)) (now (ue .entry))) from n ⌝ }
+{
+    if from < at {
+        bring_up(ut, ui, up, uc, ue, from, at, n);
+    } else {
+        bring_down(ut, ui, up, uc, ue, from, at, n);
+    }
+}
+
+impl Stand {
+    // The unfinished bars begin at place k: those before it go. This is the first stroke's cut, and the rest after a stroke.
+    pub fn begin_at(
+        self,
+        ut: &mut [i64],
+        ui: &mut [i32],
+        up: &mut [[f64; 6]],
+        uc: &mut [usize],
+        ue: &mut [[i64; 101]],
+        k: usize,
+    ) -> Stand
+        requires { ⌜ SizedMerged (mergedStore (now ut) (now ui) (now up) (now uc) (now ue)) (self .rooms .unfinished) ⌝ ∗ ⌜ self .unfinished ≤ self .rooms .unfinished ⌝ ∗ ⌜ k ≤ self .unfinished ⌝ }
+        ensures { λ r. ⌜ HasUnfinished self r (mergedStore (now (ut .exit)) (now (ui .exit)) (now (up .exit)) (now (uc .exit)) (now (ue .exit))) (drop k (keptUnfinished self (mergedStore (now (ut .entry)) (now (ui .entry)) (now (up .entry)) (now (uc .entry)) (now (ue .entry))))) ⌝ }
+    {
+        let n = self.unfinished;
+        let left = n - k;
+        bars::move_new_bars_down(ut, ui, up, uc, ue, k, 0, left);
+        let mut stand = self;
+        stand.unfinished = left;
+        stand
+    }
+
+    // A bar that passed its questions is merged into the unfinished bars.
+    pub fn put_merged(
+        self,
+        ut: &mut [i64],
+        ui: &mut [i32],
+        up: &mut [[f64; 6]],
+        uc: &mut [usize],
+        ue: &mut [[i64; 101]],
+        b: Bar,
+    ) -> Stand
+        requires { ⌜ CanMerge self (mergedStore (now ut) (now ui) (now up) (now uc) (now ue)) (mergeIn (keptUnfinished self (mergedStore (now ut) (now ui) (now up) (now uc) (now ue))) b) ⌝ }
+        ensures { λ r. ⌜ HasUnfinished self r (mergedStore (now (ut .exit)) (now (ui .exit)) (now (up .exit)) (now (uc .exit)) (now (ue .exit))) (mergeIn (keptUnfinished self (mergedStore (now (ut .entry)) (now (ui .entry)) (now (up .entry)) (now (uc .entry)) (now (ue .entry)))) b) ⌝ }
+    {
+        let n = self.unfinished;
+        let mut stand = self;
+        if n < 2 {
+            let own = bars::new_from_raw(b);
+            bars::write_new_bar(ut, ui, up, uc, ue, n, own);
+            stand.unfinished = n + 1;
+            return stand;
+        }
+        let k1 = bars::read_bar(ut, ui, up, n - 2);
+        let k2 = bars::read_new_bar(ut, ui, up, uc, ue, n - 1);
+        let found = bars::remove_include(k1.high, k2, b);
+        let k = found.bar;
+        if found.merged {
+            bars::write_new_bar(ut, ui, up, uc, ue, n - 1, k);
+            return stand;
+        }
+        bars::write_new_bar(ut, ui, up, uc, ue, n, k);
+        stand.unfinished = n + 1;
+        stand
+    }
+
+    // The raw bar of time t, if one is kept, is merged into the unfinished bars.
+    fn put_named(
+        self,
+        rt: &[i64],
+        ri: &[i32],
+        rp: &[[f64; 6]],
+        ut: &mut [i64],
+        ui: &mut [i32],
+        up: &mut [[f64; 6]],
+        uc: &mut [usize],
+        ue: &mut [[i64; 101]],
+        t: i64,
+    ) -> Stand
+        requires { ⌜ RisingRaw self (rawStore (now rt) (now ri) (now rp)) ⌝ ∗ ⌜ CanMerge self (mergedStore (now ut) (now ui) (now up) (now uc) (now ue)) (mergeAll (keptUnfinished self (mergedStore (now ut) (now ui) (now up) (now uc) (now ue))) (atTimes (keptRaw self (rawStore (now rt) (now ri) (now rp))) (t ∷ []))) ⌝ }
+        ensures { λ r. ⌜ HasUnfinished self r (mergedStore (now (ut .exit)) (now (ui .exit)) (now (up .exit)) (now (uc .exit)) (now (ue .exit))) (mergeAll (keptUnfinished self (mergedStore (now (ut .entry)) (now (ui .entry)) (now (up .entry)) (now (uc .entry)) (now (ue .entry)))) (atTimes (keptRaw self (rawStore (now (rt .entry)) (now (ri .entry)) (now (rp .entry)))) (t ∷ []))) ⌝ }
+    {
+        let n = self.raw;
+        let p = bars::find_time(rt, n, t);
+        if p < n {
+            if t < rt[p] {
+                return self;
+            }
+            let b = bars::read_bar(rt, ri, rp, p);
+            return self.put_merged(ut, ui, up, uc, ue, b);
+        }
+        self
+    }
+
+    // A bar with the last time: the last unfinished bar is taken off, and its elements but the last go through merging again, and then b.
+    // Only elements that name kept raw bars do. The raw store still has the bar that b replaces.
+    pub fn put_again(
+        self,
+        rt: &[i64],
+        ri: &[i32],
+        rp: &[[f64; 6]],
+        ut: &mut [i64],
+        ui: &mut [i32],
+        up: &mut [[f64; 6]],
+        uc: &mut [usize],
+        ue: &mut [[i64; 101]],
+        b: Bar,
+    ) -> Stand
+        requires { ⌜ RisingRaw self (rawStore (now rt) (now ri) (now rp)) ⌝ ∗ ⌜ LastHas self (mergedStore (now ut) (now ui) (now up) (now uc) (now ue)) ⌝ ∗ ⌜ CanMerge self (mergedStore (now ut) (now ui) (now up) (now uc) (now ue)) (mergedAgain (keptRaw self (rawStore (now rt) (now ri) (now rp))) (keptUnfinished self (mergedStore (now ut) (now ui) (now up) (now uc) (now ue))) b) ⌝ }
+        ensures { λ r. ⌜ HasUnfinished self r (mergedStore (now (ut .exit)) (now (ui .exit)) (now (up .exit)) (now (uc .exit)) (now (ue .exit))) (mergedAgain (keptRaw self (rawStore (now (rt .entry)) (now (ri .entry)) (now (rp .entry)))) (keptUnfinished self (mergedStore (now (ut .entry)) (now (ui .entry)) (now (up .entry)) (now (uc .entry)) (now (ue .entry)))) b) ⌝ }
+    {
+        let n = self.unfinished;
+        let at = n - 1;
+        let newest = bars::read_new_bar(ut, ui, up, uc, ue, at);
+        let old = newest.count - 1;
+        let elements = newest.elements;
+        let mut stand = self;
+        stand.unfinished = at;
+        let mut i: usize = 0;
+        while i < old {
+            let t = elements[i];
+            stand = stand.put_named(rt, ri, rp, ut, ui, up, uc, ue, t);
+            i += 1;
+        }
+        stand.put_merged(ut, ui, up, uc, ue, b)
+    }
+
+    // The last stroke breaks. Its bars, of which there are `rows`, stand in the stroke store from place `at` on. All but the last two
+    // come to the beginning, and the unfinished bars from the time of the last but one on stand behind them.
+    pub fn join_broken(
+        self,
+        ut: &mut [i64],
+        ui: &mut [i32],
+        up: &mut [[f64; 6]],
+        uc: &mut [usize],
+        ue: &mut [[i64; 101]],
+        st: &[i64],
+        si: &[i32],
+        sp: &[[f64; 6]],
+        sc: &[usize],
+        se: &[[i64; 101]],
+        at: usize,
+        rows: usize,
+    ) -> Stand
+        requires { ⌜ CanJoin self (mergedStore (now ut) (now ui) (now up) (now uc) (now ue)) (mergedStore (now st) (now si) (now sp) (now sc) (now se)) at rows ⌝ }
+        ensures { λ r. ⌜ HasUnfinished (withoutLast self) r (mergedStore (now (ut .exit)) (now (ui .exit)) (now (up .exit)) (now (uc .exit)) (now (ue .exit))) (joined (storedStroke (mergedStore (now (st .entry)) (now (si .entry)) (now (sp .entry)) (now (sc .entry)) (now (se .entry))) at rows) (keptUnfinished self (mergedStore (now (ut .entry)) (now (ui .entry)) (now (up .entry)) (now (uc .entry)) (now (ue .entry))))) ⌝ }
+    {
+        let n = self.unfinished;
+        let kept = self.strokes - 1;
+        let front = rows - 2;
+        let place = at + front;
+        let t = st[place];
+        let j = count_before(ut, n, t);
+        let left = n - j;
+        let all = front + left;
+        bring(ut, ui, up, uc, ue, j, front, left);
+        bars::join_new_bars(st, si, sp, sc, se, at, ut, ui, up, uc, ue, 0, front);
+        let mut stand = self;
+        stand.unfinished = all;
+        stand.strokes = kept;
+        stand
+    }
+}
