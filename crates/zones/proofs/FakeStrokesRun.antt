@@ -1,0 +1,90 @@
+-- The fake strokes of an alternating list that begins on a and ends on b, or on one fractal more, run from a to b and are odd in number.
+-- Assumes nothing.
+use Prim.Native.Nat.{_%_}
+use native.Mathlib.Omega.{arith}
+use mathlib.Core.Path.{_≡_, refl, ap, sym, _∙_, subst}
+use mathlib.Core.Bool.{not}
+use mathlib.Core.List.{List, [], _∷_, _++_, map}
+use mathlib.Core.Option.{Option, some}
+use lib.ListN.{length, length-map}
+use lib.Dec.{T}
+use Rattle.strokes.specs.declared.Mark.{Mark}
+use Rattle.strokes.specs.declared.Mark.the-variants.{D, G}
+use Rattle.strokes.specs.Fractals.{Fractal, timeOf, sameMark, taken}
+use Rattle.strokes.specs.Strokes.{directionOf}
+use Rattle.strokes.proofs.FewerFractals.{Alternate}
+use Rattle.strokes.proofs.Facts.{AtMostOne, nothing, one}
+use Rattle.strokes.proofs.Marks.{back, not-same}
+use Rattle.zones.specs.FakeStrokes.{Fake, evenPart, pairs, fakes, fakeDirection, fakeWith, fakeFrom, fakeOf, createFakeBis, Runs, FakesOf}
+use Rattle.zones.specs.Claims.{turned, Told}
+
+even-rest : {t : List Fractal} → AtMostOne t → evenPart t ≡ []
+unfolding evenPart
+even-rest nothing = refl
+even-rest (one c) = refl
+
+-- the even part of a list that goes on after m begins with m
+even-head : (m : Fractal) (mid : List Fractal) (b : Fractal) (t : List Fractal) → (r : List Fractal) × (evenPart (m ∷ mid ++ b ∷ t) ≡ m ∷ r)
+unfolding evenPart
+even-head m [] b t = (b ∷ evenPart t, refl)
+even-head m (x ∷ mid) b t = (x ∷ evenPart (mid ++ b ∷ t), refl)
+
+-- two fake strokes more in front
+pairs-two : (a m n : Fractal) (e r : List Fractal) → e ≡ n ∷ r → pairs (a ∷ m ∷ e) ≡ record { first = a; second = m } ∷ record { first = m; second = n } ∷ pairs e
+unfolding pairs
+pairs-two a m n e r h = rw h
+
+more : (a m n b : Fractal) (l : List Fake) → T (not (sameMark (a .mark) (m .mark))) → T (not (sameMark (m .mark) (n .mark)))
+    → FakesOf n b l → FakesOf a b (record { first = a; second = m } ∷ record { first = m; second = n } ∷ l)
+unfolding sameMark
+more a m n b l h k f = record { odd = omega (arith, f .odd); runs = (refl, h, (refl, k, f .runs)) }
+
+pub fakes-of : (a : Fractal) (mid : List Fractal) (b : Fractal) (t : List Fractal) → AtMostOne t → (p : Option Mark) → Alternate p (a ∷ mid ++ b ∷ t)
+    → T (not (sameMark (a .mark) (b .mark))) → FakesOf a b (fakes (a ∷ mid ++ b ∷ t))
+unfolding fakes evenPart pairs sameMark taken
+fakes-of a [] b t h p alt d = rw (even-rest h) (record { odd = refl; runs = (refl, d, refl) })
+fakes-of a (m ∷ []) b t h p alt d = absurd (not-same (a .mark) (b .mark) d (back (a .mark) (m .mark) (b .mark) (alt .1 .0) (alt .1 .1 .0)))
+fakes-of a (m ∷ n ∷ mid) b t h p alt d =
+    let e = even-head n mid b t in
+    let d' : T (not (sameMark (n .mark) (b .mark))) = rw (back (a .mark) (m .mark) (n .mark) (alt .1 .0) (alt .1 .1 .0)) d in
+    let f : FakesOf n b (fakes (n ∷ mid ++ b ∷ t)) = fakes-of n mid b t h (some (m .mark)) (alt .1 .1) d' in
+    subst (λ l. FakesOf a b l) (sym (pairs-two a m n (evenPart (n ∷ mid ++ b ∷ t)) (e .0) (e .1))) (more a m n b (fakes (n ∷ mid ++ b ∷ t)) (alt .1 .0) (alt .1 .1 .0) f)
+
+-- ---- as they are answered
+
+-- what is read of one
+fake-from : (m : Mark) (f : Fake) → ((fakeFrom m f) .sdt ≡ timeOf (f .first)) × ((fakeFrom m f) .direction ≡ directionOf (f .first .mark)) × ((fakeFrom m f) .edt ≡ timeOf (f .second))
+unfolding fakeFrom fakeWith fakeDirection
+fake-from D f = (refl, refl, refl)
+fake-from G f = (refl, refl, refl)
+
+fake-of : (f : Fake) → ((fakeOf f) .sdt ≡ timeOf (f .first)) × ((fakeOf f) .direction ≡ directionOf (f .first .mark)) × ((fakeOf f) .edt ≡ timeOf (f .second))
+unfolding fakeOf
+fake-of f = fake-from (f .first .mark) f
+
+turns : (m n : Mark) → T (not (sameMark m n)) → turned (directionOf m) ≡ directionOf n
+unfolding sameMark turned directionOf
+turns D D h = absurd h
+turns D G h = refl
+turns G D h = refl
+turns G G h = absurd h
+
+told-runs : (a z : Fractal) (l : List Fake) → Runs a l z → Told (timeOf a) (directionOf (a .mark)) (map fakeOf l) (timeOf z)
+told-runs a z [] r = ap timeOf r
+told-runs a z (f ∷ l) r =
+    let p = fake-of f in (
+      p .0 ∙ ap timeOf (r .0),
+      p .1 ∙ ap (λ x. directionOf (x .mark)) (r .0),
+      subst (λ t. Told t (turned (directionOf (a .mark))) (map fakeOf l) (timeOf z)) (sym (p .2))
+          (subst (λ d. Told (timeOf (f .second)) d (map fakeOf l) (timeOf z))
+          (sym (turns (f .first .mark) (f .second .mark) (r .1)) ∙ ap (λ x. turned (directionOf (x .mark))) (r .0))
+          (told-runs (f .second) z l (r .2))),
+    )
+
+pub fakes-told : (a z : Fractal) (l : List Fractal) → FakesOf a z (fakes l) → Told (timeOf a) (directionOf (a .mark)) (createFakeBis l) (timeOf z)
+unfolding createFakeBis
+fakes-told a z l f = told-runs a z (fakes l) (f .runs)
+
+pub fakes-count : (a z : Fractal) (l : List Fractal) → FakesOf a z (fakes l) → length (createFakeBis l) % 2 ≡ 1
+unfolding createFakeBis
+fakes-count a z l f = ap (λ n. n % 2) (length-map (fakes l) fakeOf) ∙ f .odd

@@ -1,0 +1,6 @@
+pub mod ZonesJoin
+pub mod FakeStrokesRun
+pub mod Demand3
+pub mod FakesOfTwo
+pub mod ZoneFolds
+pub mod RunFolds

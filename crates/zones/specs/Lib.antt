@@ -1,0 +1,10 @@
+pub mod FakeStrokes
+pub mod Zones
+pub mod BisUpDown
+pub mod FakeOfTwo
+pub mod GrowingZone
+pub mod GrowingRun
+pub mod Cases
+pub mod Marked
+pub mod Runs
+pub mod Claims
