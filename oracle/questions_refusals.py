@@ -1,0 +1,56 @@
+"""Calls at the edges of questions 1 to 3 and 5 to 9, each number by itself and several at once."""
+import math
+
+from asking import bar
+from seeded import bits
+
+EDGE = 1 << 40
+NAN = math.nan
+UP = math.inf
+GOOD = dict(time=10, high=12.0, low=9.0, open_=10.0, close=11.0, vol=1.0, amount=1.0, id_=1)
+
+
+def settings():
+    lines = ["b " + bar(1, 2.0, 1.0), "d", "r"]
+    lines += [f"n {a} {b} 64 64 64" for a in (0, 1, 64, 65, 1000) for b in (0, 1, 64, 65, 1000)]
+    for n in (0, 15, 16, 64, 65537, 1000000):
+        lines += [f"n 6 50 {n} 64 64", f"n 6 50 64 {n} 64", f"n 6 50 64 64 {n}"]
+    return lines + ["n 65 65 15 15 15", "n 64 65 15 15 15", "n 64 64 15 15 15"]
+
+
+def changed(**fields):
+    return "b " + bar(**{**GOOD, **fields})
+
+
+def prices():
+    """Each price at each end, just inside and just outside; low and high are moved together where both must pass."""
+    low, high = 2.0**-20, 2.0**30
+    values = [low, math.nextafter(low, 0.0), math.nextafter(low, 1.0), high, math.nextafter(high, UP),
+              math.nextafter(high, 0.0), 0.0, -0.0, -1.0, UP, -UP, NAN, 5e-324]
+    for v in values:
+        yield changed(open_=v)
+        yield changed(close=v)
+        yield changed(high=v)
+        yield changed(low=v)
+        yield changed(high=v, low=v)
+
+
+def quantities():
+    most = 2.0**50
+    for v in [0.0, -0.0, 5e-324, -5e-324, most, math.nextafter(most, UP), math.nextafter(most, 0.0), UP, -UP, NAN, -1.0]:
+        yield changed(vol=v)
+        yield changed(amount=v)
+
+
+def lines(r):
+    yield from settings()
+    yield "n 6 50 64 64 64"
+    yield from [changed(time=t) for t in (-EDGE - 1, EDGE + 1, -(1 << 63), (1 << 63) - 1, -EDGE, -EDGE, 0, 10)]
+    yield from prices()
+    yield from quantities()
+    yield from [changed(high=9.0), changed(high=8.0), changed(high=math.nextafter(9.0, 0.0)), changed(high=math.nextafter(9.0, UP))]
+    yield from [changed(time=9), changed(time=11), changed(time=10), changed(time=-EDGE)]
+    yield from [changed(time=EDGE + 1, high=0.0, vol=-1.0), changed(time=9, high=0.0, vol=-1.0), changed(time=9, high=1.0, vol=-1.0),
+                changed(time=9, high=1.0), changed(time=9), changed(time=EDGE, high=1.0), changed(time=EDGE), changed(time=EDGE)]
+    yield from ["d", "r", "n 6 50 15 64 64", "d", "x", "b", "n 6 50 64 64", "b 11 1 " + " ".join([bits(10.0)] * 5), "d d", " d", "D"]
+    yield from ["b 11 1 " + " ".join([bits(10.0).upper().replace("4", "A")] * 6), "b 11.5 1 " + " ".join([bits(10.0)] * 6)]

@@ -1,0 +1,2 @@
+pub mod corr;
+pub mod rounded;
