@@ -122,7 +122,7 @@ raw-at s at z h =
     ∙ ap (λ (f : List Float → Bar). f (getD (s .prices) at []))
     (zip-at barOf at (s .times) (s .ids) (pos 0) (pos 0) (barOf (pos 0) (pos 0)) (omega (arith, h .times)) (omega (arith, h .ids)))
 
-raw-longer : (s : RawStore) (at : ℕ) → RoomRaw s (at + 1) → at < length (rawBars s)
+pub raw-longer : (s : RawStore) (at : ℕ) → RoomRaw s (at + 1) → at < length (rawBars s)
 unfolding rawBars
 raw-longer s at h =
     let e : at < length (zipWith barOf (s .times) (s .ids)) = zip-longer barOf (s .times) (s .ids) at (omega (arith, h .times)) (omega (arith, h .ids)) in

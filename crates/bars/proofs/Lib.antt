@@ -8,3 +8,5 @@ pub mod Moves
 pub mod Columns
 pub mod Searching
 pub mod KeptBars
+pub mod AgainBound
+pub mod TailRuns

@@ -179,3 +179,18 @@ module _ {A : Type 0} (f : A → ℤ) where
   unfolding keepIf placeOf
   nameless t [] z r d = refl
   nameless t (a ∷ l) z r d = nameless-by t a l z (ltZ (f a) t) refl r d (nameless t l z (rising-tail (f a) (map f l) r))
+
+  kept-by : (b : Bool) (a : A) (l : List A) → (b ≡ true → l ≡ []) → length l ≤ 1 → length (cond b (a ∷ l) l) ≤ 1
+  kept-by true a l h k = let e = ap length (h refl) in omega arith
+  kept-by false a l h k = k
+
+  -- of rows whose times rise, one at most has the time t
+  pub at-most-one : (t : ℤ) (l : List A) → T (rising (map f l)) → length (keepIf (timed t) l) ≤ 1
+  unfolding keepIf
+  at-most-one t [] r = omega arith
+  at-most-one t (a ∷ l) r =
+      kept-by (timed t a) a (keepIf (timed t) l)
+      (λ e. let h = holds e in
+      let q : f a ≡ t = same (f a) t (and-l (leZ (f a) t) (leZ t (f a)) h) (and-r (leZ (f a) t) (leZ t (f a)) h) in
+      subst (λ (u : ℤ). keepIf (timed u) l ≡ []) q (later (f a) l r))
+      (at-most-one t l (rising-tail (f a) (map f l) r))

@@ -5,5 +5,6 @@ pub mod Merging
 pub mod MergedBars
 pub mod Gaps
 pub mod Stores
+pub mod TailRows
 pub mod Cases
 pub mod StoreCases

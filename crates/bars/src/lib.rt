@@ -36,6 +36,7 @@ pub use stores::read_new_bar;
 pub use stores::write_bar;
 pub use stores::write_new_bar;
 pub use tails::merge_into_tail;
+pub use tails::merge_run_into_tail;
 
 // RawBar of the source: one bar as it is fed. Time is in seconds.
 pub struct Bar {

@@ -1,6 +1,7 @@
 // Document 01's merging, remove_include of the source: with the elements, and without them, for asking what a bar would do.
 ghost use mathlib.Core.Path.{_≡_};
 ghost use mathlib.Core.Bool.{_&&_};
+ghost use Prim.Native.Nat.{_≤_};
 ghost use lib.Ieee.{le};
 ghost use Rattle.bars.specs.Bars.{mergedOf, own};
 ghost use Rattle.bars.specs.Merging.{contains};
@@ -116,9 +117,9 @@ pub fn remove_include_bar(k1_high: f64, k2: Bar, k3: Bar) -> IncludedBar
     }
 }
 
-// A raw bar as a merged bar of its own.
+// A raw bar as a merged bar of its own, with one element.
 pub fn new_from_raw(b: Bar) -> NewBar
-    ensures { λ r. ⌜ mergedOf r ≡ own b ⌝ }
+    ensures { λ r. ⌜ (mergedOf r ≡ own b) × (r .count ≡ 1) ⌝ }
 {
     let time = b.time;
     NewBar {
@@ -130,7 +131,7 @@ pub fn new_from_raw(b: Bar) -> NewBar
 
 // The bar `b` with k2's first 100 elements and then one of this time. A count past the 101 places counts as 101.
 fn with_element(b: Bar, k2: NewBar, time: i64) -> NewBar
-    ensures { λ r. ⌜ mergedOf r ≡ withElement b (mergedOf k2) time ⌝ }
+    ensures { λ r. ⌜ (mergedOf r ≡ withElement b (mergedOf k2) time) × (r .count ≤ 101) ⌝ }
 {
     let mut elements = k2.elements;
     let count = k2.count;
@@ -150,9 +151,9 @@ fn with_element(b: Bar, k2: NewBar, time: i64) -> NewBar
     }
 }
 
-// k3 against k2, whose bar before has the high k1_high.
+// k3 against k2, whose bar before has the high k1_high. The bar that comes of it has at most 101 elements, whatever k2's count says.
 pub fn remove_include(k1_high: f64, k2: NewBar, k3: Bar) -> Included
-    ensures { λ r. ⌜ inPlaceOf (mergedOf k2) (r .merged) (mergedOf (r .bar)) ≡ removeIncludeAfter «k1_high» (mergedOf k2) k3 ⌝ }
+    ensures { λ r. ⌜ (inPlaceOf (mergedOf k2) (r .merged) (mergedOf (r .bar)) ≡ removeIncludeAfter «k1_high» (mergedOf k2) k3) × (r .bar .count ≤ 101) ⌝ }
 {
     let b = k2.bar;
     let found = remove_include_bar(k1_high, b, k3);
