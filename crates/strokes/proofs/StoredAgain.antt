@@ -22,7 +22,7 @@ use Rattle.bars.proofs.MergedLists.{merge-run-grows}
 use Rattle.bars.proofs.Searching.{timed, named, nameless}
 use Rattle.strokes.specs.declared.Stand.{Stand}
 use Rattle.strokes.specs.StoreSteps.{HasUnfinished, CanMerge, RisingRaw, LastHas, keptRaw, keptUnfinished, withUnfinished, mergedAgain}
-use Rattle.strokes.proofs.Times.{not-lt-le, le-antisym}
+use Rattle.machine.proofs.Times.{not-lt-le, le-antisym}
 use Rattle.strokes.proofs.StoredRaw.{init-take, last-take, map-take}
 use Rattle.strokes.proofs.StoredUnfinished.{room-of, has-unfinished}
 

@@ -16,18 +16,18 @@ use Rattle.bars.specs.Bars.{Merged}
 use Rattle.bars.specs.Lists.{All}
 use Rattle.bars.specs.Stores.{RawStore, RoomRaw, zipWith, barOf, rowOf, rawBars, barAt}
 use Rattle.bars.proofs.Columns.{zip-take, zip-drop, zip-append, zip-longer, raw-at}
-use Rattle.strokes.specs.declared.Mark.{Mark}
-use Rattle.strokes.specs.declared.Mark.the-variants.{D, G}
+use Rattle.machine.specs.declared.Mark.{Mark}
+use Rattle.machine.specs.declared.Mark.the-variants.{D, G}
 use Rattle.strokes.specs.declared.strokes_store.Written.{Written}
-use Rattle.strokes.specs.Fractals.{Fractal, Placed, isTop, isBottom, checkFx, taken, pushIf, pushed, fxsAfter, checkFxs, placedAfter}
-use Rattle.strokes.specs.declared.scan.Candle.{Candle}
-use Rattle.strokes.specs.Scan.{candleOf, topOf, bottomOf}
+use Rattle.machine.specs.Fractals.{Fractal, Placed, isTop, isBottom, checkFx, taken, pushIf, pushed, fxsAfter, checkFxs, placedAfter}
+use Rattle.check_bi.specs.declared.scan.Candle.{Candle}
+use Rattle.check_bi.specs.Scan.{candleOf, topOf, bottomOf}
 use Rattle.strokes.specs.Stored.{FractalStore, fractalStore, rowBar, fractalOf, rowFractal, storedFractals, bareBar, bareFractal}
 use Rattle.strokes.specs.StrokeStore.{stampsOf, pricesOf, stampRow, priceRow, setFractal, SizedFractals, plainBar, fractalsOf, pasted, putFractals}
 use Rattle.strokes.specs.StrokeStore.{lastMark, lastOf, Writing, putIf, putFractal, putWindowIf, putWindow}
-use Rattle.strokes.proofs.Lists.{All-map}
-use Rattle.strokes.proofs.Places.{fractal, Stands, placed-are, placed-stand}
-use Rattle.strokes.proofs.FewerFractals.{All-read}
+use Rattle.machine.proofs.Lists.{All-map}
+use Rattle.machine.proofs.Places.{fractal, Stands, placed-are, placed-stand}
+use Rattle.machine.proofs.FewerFractals.{All-read}
 
 -- ---- a fractal's rows read back
 

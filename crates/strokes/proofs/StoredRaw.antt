@@ -18,8 +18,8 @@ use Rattle.bars.proofs.Moves.{take-copied, run-is}
 use Rattle.bars.proofs.Columns.{raw-length, raw-appended, raw-copied, raw-times, sized-set, sized-copied}
 use Rattle.bars.proofs.Searching.{place-le, place-skip}
 use Rattle.strokes.specs.declared.Stand.{Stand}
-use Rattle.strokes.specs.Stand.{State}
-use Rattle.strokes.specs.Feed.{rawWith}
+use Rattle.machine.specs.Stand.{State}
+use Rattle.machine.specs.Feed.{rawWith}
 use Rattle.strokes.specs.StoreSteps.{HasRaw, keptRaw, withRaw, rawOnly}
 
 -- ---- lists

@@ -17,12 +17,12 @@ use Rattle.bars.specs.Lists.{every, last, init}
 use Rattle.bars.specs.Stores.{RawStore, MergedStore, SizedRaw, SizedMerged, rawBars, mergedBars, newBarAt, rising}
 use Rattle.bars.proofs.Columns.{raw-length, raw-times, merged-length, merged-at}
 use Rattle.strokes.specs.declared.Stand.{Stand}
-use Rattle.strokes.specs.Fractals.{Fractal}
-use Rattle.strokes.specs.Strokes.{Stroke}
-use Rattle.strokes.specs.Break.{joined}
-use Rattle.strokes.specs.Stand.{State}
-use Rattle.strokes.specs.Feed.{mergedWith}
-use Rattle.strokes.specs.Soundness.{rises, barTimes, endsOn, closes}
+use Rattle.machine.specs.Fractals.{Fractal}
+use Rattle.machine.specs.Strokes.{Stroke}
+use Rattle.machine.specs.Break.{joined}
+use Rattle.machine.specs.Stand.{State}
+use Rattle.machine.specs.Feed.{mergedWith}
+use Rattle.machine.specs.Soundness.{rises, barTimes, endsOn, closes}
 use Rattle.strokes.specs.Stored.{Stores, storedFractals, strokeWith, strokesWith, barCounts, fractalCounts, stateOf, elementsSized}
 use Rattle.strokes.specs.StoreSteps.{HasRaw, HasUnfinished, RisingRaw, LastHas, keptRaw, keptUnfinished, withRaw, withUnfinished, withoutLast, storedStroke, mergedAgain}
 use Rattle.strokes.proofs.StoredRaw.{last-take, map-take}

@@ -22,27 +22,29 @@ use Rattle.bars.specs.Stores.{RawStore, MergedStore, SizedMerged, RoomRaw, Room
 use Rattle.bars.proofs.Moves.{length-copied, take-copied, run-is, down-turn}
 use Rattle.bars.proofs.Columns.{zip-copied, zip-length, zip-at, merged-at, merged-length, merged-copied, sized-merged-copied, merged-bars}
 use Rattle.strokes.specs.declared.Stand.{Stand}
-use Rattle.strokes.specs.declared.scan.Candle.{Candle}
+use Rattle.check_bi.specs.declared.scan.Candle.{Candle}
 use Rattle.strokes.specs.declared.strokes_store.LastStroke.{LastStroke}
-use Rattle.strokes.specs.declared.Mark.{Mark}
-use Rattle.strokes.specs.declared.Mark.the-variants.{D, G}
-use Rattle.strokes.specs.Fractals.{Fractal, Placed, isTop, taken, checkFx, pushIf, pushed, fxsAfter, checkFxs}
-use Rattle.strokes.specs.Strokes.{Stroke, directionOf, strokeAt, checkBi}
-use Rattle.strokes.specs.Break.{highOf, lowOf}
-use Rattle.strokes.specs.declared.scan.FoundBi.{FoundBi}
-use Rattle.strokes.specs.declared.scan.Fx.{Fx}
-use Rattle.strokes.specs.Scan.{fxAt, fxPlaced, topOf}
-use Rattle.strokes.specs.Feed.{shedIf}
-use Rattle.strokes.specs.Soundness.{fewerFractals, alternates, sameFractal, isStroke}
+use Rattle.machine.specs.declared.Mark.{Mark}
+use Rattle.machine.specs.declared.Mark.the-variants.{D, G}
+use Rattle.machine.specs.Fractals.{Fractal, Placed, isTop, taken, checkFx, pushIf, pushed, fxsAfter, checkFxs}
+use Rattle.machine.specs.Strokes.{Stroke, directionOf, strokeAt, checkBi}
+use Rattle.machine.specs.Break.{highOf, lowOf}
+use Rattle.check_bi.specs.declared.scan.FoundBi.{FoundBi}
+use Rattle.check_bi.specs.declared.scan.Fx.{Fx}
+use Rattle.check_bi.specs.Scan.{fxAt, fxPlaced, topOf}
+use Rattle.machine.specs.Feed.{shedIf}
+use Rattle.machine.specs.Soundness.{fewerFractals, alternates, sameFractal, isStroke}
 use Rattle.strokes.specs.Stored.{Stores, mergedSized, fractalSized, rawSized, storesSized, countsSized, elementsSized, sized, stateOf}
 use Rattle.strokes.specs.Stored.{rowBar, fractalOf, noFractal, bareBar, bareFractal, bareStroke}
 use Rattle.strokes.specs.Stored.{FractalStore, rowFractal, storedFractals, strokeWith, strokesWith, settingsOf, barCounts, fractalCounts, total}
 use Rattle.strokes.specs.StrokeStore.{SizedFractals, RoomFractals, keptStrokes, Fewer, Kept, Unmoved, copiedFractals, shifted, shedStand, ShedWhere}
 use Rattle.strokes.specs.StrokeStore.{plainBar, fractalsOf, pasted, putFractals, withStroke, endIf, windowsEnd, madeStroke, Makeable, Made}
 use Rattle.strokes.specs.StrokeStore.{lastPlace, lastBars, lastFractals, endPlace, rowMark, lastRead, LastStands, LastIs, withoutLast, TakenOff}
-use Rattle.strokes.proofs.FewerFractals.{MadeFrom, StrokeFound, stroke-found, start-read, end-read, stroke-fractals, order, end-stands}
-use Rattle.strokes.proofs.Places.{fits}
-use Rattle.strokes.proofs.ScanPlaces.{MadeAs}
+use Rattle.machine.proofs.FewerFractals.{MadeFrom, StrokeFound, stroke-found, start-read, end-read, stroke-fractals, order, end-stands}
+use Rattle.machine.proofs.Places.{fits}
+use Rattle.check_bi.proofs.ScanPlaces.{MadeAs}
+use Rattle.strokes.specs.ElementCounts.{StaySized}
+use Rattle.strokes.proofs.StoredCounts.{stay-fewer, stay-begun, stay-added}
 use Rattle.strokes.proofs.StoredFractals.{Shown, fxs-shown, sized-put, stored-put, fxs-bare}
 
 -- ---- what the strokes are read of
@@ -250,6 +252,9 @@ shed-means s r k f k' f' b h one eb ek ef er ns ms =
             raw = ap (λ (x : Stand). x .raw) er;
             unfinished = ap (λ (x : Stand). x .unfinished) er;
           };
+      elements =
+          λ few. subst (λ (i : ℕ). T (elementsSized i k')) (sym (ap total ns ∙ total-drop w ∙ ap (λ (x : ℕ). total w - x) (sym eb')))
+          (stay-begun k k' b (total w) room (h .merged) g fits ek few);
     }
 
 -- the same of the numbers that the code has computed
@@ -270,7 +275,7 @@ shed-done s r k f k' f' u h one eu ek ef er ns ms =
 
 pub shed-not : (s : Stand) (k : MergedStore) (f : FractalStore) → Kept s k f → ShedWhere false s k f s k f
 unfolding shedIf
-shed-not s k f h = record { strokes = refl; kept = h; rest = record { settings = refl; rooms = refl; raw = refl; unfinished = refl } }
+shed-not s k f h = record { strokes = refl; kept = h; rest = record { settings = refl; rooms = refl; raw = refl; unfinished = refl }; elements = λ few. few }
 
 pub first-within : (l : List ℕ) (n u : ℕ) → 1 ≤ n → u ≡ total (take n l) → getD l 0 0 ≤ u
 first-within l n u h e = let q = head-least (take n l) in let g = getD-take n l 0 0 h in omega arith
@@ -555,6 +560,10 @@ module _ (s : Stand) (u k : MergedStore) (f : FractalStore) (first bars : ℕ) (
               raw = ap (λ (z : Stand). z .raw) er;
               unfinished = ap (λ (z : Stand). z .unfinished) er;
             };
+        elements =
+            λ fresh few. subst (λ (i : ℕ). T (elementsSized i k')) (sym (ap total ns ∙ total-more w bars))
+            (stay-added k u k' (total w) first bars (s .unfinished) room (s .rooms .unfinished) (h .merged) (g .merged) (g .inside) (g .unfinished) more
+            (ek ∙ ap (λ (x : ℕ). copiedMerged k x u first bars) tt') fresh few);
       }
 
 -- ---- the stroke that check_bi makes
@@ -990,3 +999,18 @@ last-stands s k f h one lb lf all =
       ends = omega arith;
       fewer = fewer-last ns ms x y e (subst (λ (z : List ℕ). Fewer (ns ++ x ∷ []) z) q (subst (λ (z : List ℕ). Fewer z (take (s .strokes) (s .fractals))) p (h .fewer)));
     }
+
+-- ---- the elements of a stroke that is taken off
+
+module _ (s : Stand) (k : MergedStore) (one : 1 ≤ s .strokes) (fits : s .strokes ≤ length (s .bars)) where
+  last-total : total (barCounts s) ≡ lastPlace s + lastBars s
+  unfolding barCounts lastPlace lastBars
+  last-total = ap total (take-before (s .bars) (s .strokes) one fits) ∙ total-more (take (s .strokes - 1) (s .bars)) (getD (s .bars) (s .strokes - 1) 0)
+
+  -- the strokes that are left, and those that were kept up to the last one's end
+  pub stay-without-last : StaySized (total (barCounts s)) k (total (barCounts (withoutLast s))) k
+  unfolding barCounts lastPlace withoutLast
+  stay-without-last = let e = last-total in stay-fewer k (total (take (s .strokes - 1) (s .bars))) (total (barCounts s)) (omega arith)
+
+  pub stay-last-stroke : StaySized (total (barCounts s)) k (lastPlace s + lastBars s) k
+  stay-last-stroke few = subst (λ (i : ℕ). T (elementsSized i k)) last-total few

@@ -20,8 +20,8 @@ use Rattle.bars.specs.Stores.{MergedStore, mergedStore, rawPart, SizedMerged, R
 use Rattle.bars.proofs.Moves.{take-copied, run-is}
 use Rattle.bars.proofs.Columns.{merged-length, merged-at, merged-copied, merged-appended, merged-bars, raw-times, sized-merged-set, sized-merged-copied}
 use Rattle.strokes.specs.declared.Stand.{Stand}
-use Rattle.strokes.specs.ByTime.{from}
-use Rattle.strokes.specs.Break.{fromBar, joined}
+use Rattle.machine.specs.ByTime.{from}
+use Rattle.machine.specs.Break.{fromBar, joined}
 use Rattle.strokes.specs.Stored.{strokeWith}
 use Rattle.strokes.specs.StoreSteps.{HasUnfinished, CanMerge, CanJoin, keptUnfinished, withUnfinished, withoutLast, storedStroke}
 use Rattle.strokes.proofs.StoredRaw.{moved-down, init-take, last-take, passed, place-in}
@@ -215,7 +215,7 @@ module _ (lo at from i j n : ℕ) (to : lo + i ≡ at) (of : lo + j ≡ from) wh
       (part-moved (s .elements) (v .elements) (ap (λ (x : MergedStore). x .elements) e) t)
 
 -- m rows of another list before the rows from place j on of the first n
-joined-rows : {A : Type 0} (l k : List A) (m j n at : ℕ) → j ≤ n → n ≤ length l → m + (n - j) ≤ length l → at + m ≤ length k
+pub joined-rows : {A : Type 0} (l k : List A) (m j n at : ℕ) → j ≤ n → n ≤ length l → m + (n - j) ≤ length l → at + m ≤ length k
     → take (m + (n - j)) (copied (copied l m l j (n - j)) 0 k at m) ≡ take m (drop at k) ++ drop j (take n l)
 unfolding copied
 joined-rows {A} l k m j n at h b c e =

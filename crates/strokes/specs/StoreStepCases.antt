@@ -7,8 +7,8 @@ use Rattle.bars.specs.Bars.{Merged, own}
 use Rattle.bars.specs.Lists.{foldl, keepIf, skipWhile, last, init}
 use Rattle.bars.specs.Merging.{mergeIn, mergeAll, atTimes, again}
 use Rattle.bars.specs.Stores.{MergedStore, mergedStore, rawBars, zipWith, barOf, mergedWith, mergedBars}
-use Rattle.strokes.specs.ByTime.{from}
-use Rattle.strokes.specs.Break.{fromBar, joined}
+use Rattle.machine.specs.ByTime.{from}
+use Rattle.machine.specs.Break.{fromBar, joined}
 use Rattle.strokes.specs.Stored.{strokeWith}
 use Rattle.strokes.specs.StoreSteps.{storedStroke, mergedAgain}
 

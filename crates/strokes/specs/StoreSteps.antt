@@ -11,9 +11,9 @@ use Rattle.bars.specs.Lists.{last, init}
 use Rattle.bars.specs.Merging.{mergeAll, again}
 use Rattle.bars.specs.Stores.{RawStore, MergedStore, SizedRaw, SizedMerged, rawBars, mergedBars, rising}
 use Rattle.strokes.specs.declared.Stand.{Stand}
-use Rattle.strokes.specs.Strokes.{Stroke}
-use Rattle.strokes.specs.Break.{joined}
-use Rattle.strokes.specs.Stand.{State}
+use Rattle.machine.specs.Strokes.{Stroke}
+use Rattle.machine.specs.Break.{joined}
+use Rattle.machine.specs.Stand.{State}
 use Rattle.strokes.specs.Stored.{strokeWith}
 
 -- ---- the raw store

@@ -11,12 +11,12 @@ use Rattle.bars.specs.declared.Bar.{Bar}
 use Rattle.bars.specs.Bars.{Merged}
 use Rattle.bars.specs.Lists.{every}
 use Rattle.bars.specs.Stores.{RawStore, MergedStore, zipWith, barOf, rawBars, mergedBars}
-use Rattle.strokes.specs.declared.Mark.{Mark}
-use Rattle.strokes.specs.declared.Mark.the-variants.{D, G}
+use Rattle.machine.specs.declared.Mark.{Mark}
+use Rattle.machine.specs.declared.Mark.the-variants.{D, G}
 use Rattle.strokes.specs.declared.Stand.{Stand}
-use Rattle.strokes.specs.Fractals.{Fractal, isTop}
-use Rattle.strokes.specs.Strokes.{Stroke}
-use Rattle.strokes.specs.Stand.{Settings, State}
+use Rattle.machine.specs.Fractals.{Fractal, isTop}
+use Rattle.machine.specs.Strokes.{Stroke}
+use Rattle.machine.specs.Stand.{Settings, State}
 
 -- ---- the fractals of strokes
 

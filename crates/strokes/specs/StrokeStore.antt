@@ -6,7 +6,7 @@ use mathlib.Core.List.{List, [], _∷_, _++_, map}
 use mathlib.Core.Option.{Option, none, some}
 use mathlib.Core.Path.{_≡_}
 use lib.ListN.{length, take, drop, getD, set}
-use lib.Dec.{ltb}
+use lib.Dec.{T, ltb}
 use lib.IntN.{ℤ, pos}
 use lib.Ieee.{Float, nan}
 use Rattle.arith.specs.Order.{maxOf, minOf}
@@ -14,16 +14,17 @@ use Rattle.bars.specs.declared.Bar.{Bar}
 use Rattle.bars.specs.Bars.{Merged}
 use Rattle.bars.specs.Lists.{last, init}
 use Rattle.bars.specs.Stores.{RawStore, MergedStore, SizedMerged, rowOf, rawBars, mergedBars, copied}
-use Rattle.strokes.specs.declared.Mark.{Mark}
-use Rattle.strokes.specs.declared.Mark.the-variants.{D, G}
+use Rattle.machine.specs.declared.Mark.{Mark}
+use Rattle.machine.specs.declared.Mark.the-variants.{D, G}
 use Rattle.strokes.specs.declared.Stand.{Stand}
 use Rattle.strokes.specs.declared.strokes_store.LastStroke.{LastStroke}
 use Rattle.strokes.specs.declared.strokes_store.Written.{Written}
-use Rattle.strokes.specs.Fractals.{Fractal, isTop, isBottom, taken, checkFxs}
-use Rattle.strokes.specs.Strokes.{Stroke, directionOf}
-use Rattle.strokes.specs.Break.{highOf, lowOf}
-use Rattle.strokes.specs.Feed.{shedIf}
-use Rattle.strokes.specs.Stored.{FractalStore, fractalStore, rowFractal, storedFractals, strokeWith, strokesWith, settingsOf, barCounts, fractalCounts, total, bareFractal}
+use Rattle.machine.specs.Fractals.{Fractal, isTop, isBottom, taken, checkFxs}
+use Rattle.machine.specs.Strokes.{Stroke, directionOf}
+use Rattle.machine.specs.Break.{highOf, lowOf}
+use Rattle.machine.specs.Feed.{shedIf}
+use Rattle.strokes.specs.Stored.{FractalStore, fractalStore, rowFractal, storedFractals, strokeWith, strokesWith, settingsOf, barCounts, fractalCounts, total, elementsSized, bareFractal}
+use Rattle.strokes.specs.ElementCounts.{StaySized}
 
 -- ---- the rows of a fractal
 
@@ -178,6 +179,7 @@ pub record ShedWhere (over : Bool) (s : Stand) (k : MergedStore) (f : FractalSto
   pub strokes : keptStrokes r k' f' ≡ shedIf over (keptStrokes s k f)
   pub kept : Kept r k' f'
   pub rest : Unmoved r s
+  pub elements : StaySized (total (barCounts s)) k (total (barCounts r)) k'
 
 -- ---- a stroke is made
 
@@ -223,6 +225,7 @@ pub record Made (s : Stand) (u k : MergedStore) (f : FractalStore) (first bars :
   pub strokes : keptStrokes r k' f' ≡ keptStrokes s k f ++ madeStroke (take (s .unfinished) (mergedBars u)) first bars ∷ []
   pub kept : Kept r k' f'
   pub rest : Unmoved r s
+  pub elements : T (elementsSized (s .unfinished) u) → StaySized (total (barCounts s)) k (total (barCounts r)) k'
 
 -- ---- the last stroke, of which the break test asks
 

@@ -7,8 +7,8 @@ use lib.IntN.{ℤ, pos}
 use lib.Ieee.{Float, binary64, ofInt}
 use Rattle.bars.specs.declared.Bar.{Bar}
 use Rattle.bars.specs.Bars.{Merged}
-use Rattle.strokes.specs.declared.Mark.the-variants.{D, G}
-use Rattle.strokes.specs.Fractals.{Fractal, checkFxs}
+use Rattle.machine.specs.declared.Mark.the-variants.{D, G}
+use Rattle.machine.specs.Fractals.{Fractal, checkFxs}
 use Rattle.strokes.specs.Stored.{FractalStore, fractalStore, storedFractals, strokeWith}
 use Rattle.strokes.specs.StrokeStore.{plainBar, pasted, putFractals, windowsEnd}
 

@@ -1,44 +1,17 @@
-// Fractals, strokes, the stand and the steps of update_bar.
-mod fractal_answers;
-mod fresh_stand;
-mod measures;
-mod merged_tail;
-mod plan;
+// The stand and its lent stores, and the writing steps of update_bar on them.
 mod raw_store;
-mod scan;
-mod soundness;
 mod strokes_store;
 mod unfinished_store;
 
-pub use fractal_answers::FractalAnswers;
-pub use fractal_answers::Strength;
-pub use fresh_stand::FreshAnswer;
-pub use fresh_stand::fresh;
-pub use measures::Measures;
-pub use merged_tail::TailAnswer;
-pub use merged_tail::tail_later;
-pub use plan::Last;
-pub use plan::Plan;
 pub use raw_store::count_before;
-pub use scan::Candle;
-pub use scan::FoundBi;
-pub use scan::Fx;
-pub use scan::Scan;
-pub use soundness::is_sound;
 pub use strokes_store::LastStroke;
 pub use strokes_store::Written;
-
-// Mark of the source: D is a bottom, G a top.
-pub enum Mark {
-    D,
-    G,
-}
-
-// Direction of the source: the way a stroke goes.
-pub enum Direction {
-    Up,
-    Down,
-}
+pub use strokes_store::last_stroke;
+pub use strokes_store::make_stroke;
+pub use strokes_store::shed;
+pub use strokes_store::shed_if;
+pub use strokes_store::total_bars;
+pub use strokes_store::without_last;
 
 // How many bars each lent store takes.
 pub struct Rooms {

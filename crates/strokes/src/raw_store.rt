@@ -6,7 +6,7 @@ ghost use lib.ListN.{length, take};
 ghost use lib.Signed.{ltZ};
 ghost use Rattle.bars.specs.Lists.{skipWhile};
 ghost use Rattle.bars.specs.Stores.{rawStore, SizedRaw, placeOf};
-ghost use Rattle.strokes.specs.Feed.{rawWith};
+ghost use Rattle.machine.specs.Feed.{rawWith};
 ghost use Rattle.strokes.specs.StoreSteps.{HasRaw, keptRaw, rawOnly};
 use crate::Stand;
 use bars::Bar;

@@ -5,19 +5,18 @@ ghost use mathlib.Core.List.{[], _∷_, _++_};
 ghost use lib.ListN.{length, take, drop};
 ghost use Rattle.bars.specs.Stores.{rawStore, mergedStore, RoomRaw, RoomMerged, copied, copiedMerged};
 ghost use Rattle.strokes.specs.Stored.{fractalStore, barCounts, fractalCounts, total};
-ghost use Rattle.strokes.specs.Fractals.{taken};
-ghost use Rattle.strokes.specs.Strokes.{directionOf};
-ghost use Rattle.strokes.specs.Scan.{candleOf};
+ghost use Rattle.machine.specs.Fractals.{taken};
+ghost use Rattle.machine.specs.Strokes.{directionOf};
+ghost use Rattle.check_bi.specs.Scan.{candleOf};
 ghost use Rattle.strokes.specs.StrokeStore.{setFractal, RoomFractals, plainBar, fractalsOf, putFractals, lastOf, writing, putFractal, putWindow};
 ghost use Rattle.strokes.specs.StrokeStore.{rowMark, LastStands, lastRead, withoutLast, Kept, Makeable, Made, ShedWhere, copiedFractals, shifted, shedStand, withStroke, windowsEnd};
 ghost use mathlib.Core.Bool.{true};
 ghost use lib.Dec.{ltb};
-use crate::Direction;
-use crate::Mark;
 use crate::Stand;
-use crate::scan;
-use crate::scan::Candle;
 use bars::Bar;
+use check_bi::Candle;
+use machine::Direction;
+use machine::Mark;
 
 // The fractals that have been written: how many, and the last one's mark.
 pub struct Written {
@@ -98,7 +97,7 @@ fn is_taken(w: Written, m: Mark) -> bool
     if w.count == 0 {
         return true;
     }
-    !scan::same_mark(last, m)
+    !check_bi::same_mark(last, m)
 }
 
 // The fractal of mark m, unless the last one taken has this mark.
@@ -142,11 +141,11 @@ fn put_window(
     let x = candle_of(a);
     let y = candle_of(b);
     let z = candle_of(c);
-    if scan::is_top(x, y, z) {
+    if check_bi::is_top(x, y, z) {
         let m = Mark::G;
         return put_fractal(fs, fp, at, w, m, a, b, c);
     }
-    if scan::is_bottom(x, y, z) {
+    if check_bi::is_bottom(x, y, z) {
         let m = Mark::D;
         return put_fractal(fs, fp, at, w, m, a, b, c);
     }
@@ -411,7 +410,7 @@ fn row_direction(p: [f64; 18]) -> Direction
         high: p[14],
         low: p[15],
     };
-    if scan::is_top(x, y, z) {
+    if check_bi::is_top(x, y, z) {
         return Direction::Down;
     }
     Direction::Up

@@ -1,12 +1,15 @@
-// The writing steps of a feed on the unfinished store.
+// The writing steps of a feed on the unfinished store. Each also says that no bar comes to have more than 101 elements.
 ghost use mathlib.Core.Path.{_≡_};
 ghost use mathlib.Core.List.{[], _∷_};
 ghost use Prim.Native.Nat.{_+_, _≤_};
 ghost use lib.ListN.{drop};
+ghost use lib.Dec.{T};
 ghost use Rattle.bars.specs.Stores.{rawStore, mergedStore, SizedMerged, RoomMerged, copiedMerged};
 ghost use Rattle.bars.specs.Merging.{mergeIn, mergeAll, atTimes};
-ghost use Rattle.strokes.specs.Break.{joined};
+ghost use Rattle.machine.specs.Break.{joined};
 ghost use Rattle.strokes.specs.StoreSteps.{HasUnfinished, CanMerge, RisingRaw, LastHas, CanJoin, mergedAgain, keptRaw, keptUnfinished, withoutLast, storedStroke};
+ghost use Rattle.strokes.specs.Stored.{elementsSized};
+ghost use Rattle.strokes.specs.ElementCounts.{StaySized};
 use crate::Stand;
 use crate::count_before;
 use bars::Bar;
@@ -96,7 +99,7 @@ impl Stand {
         k: usize,
     ) -> Stand
         requires { ⌜ SizedMerged (mergedStore (now ut) (now ui) (now up) (now uc) (now ue)) (self .rooms .unfinished) ⌝ ∗ ⌜ self .unfinished ≤ self .rooms .unfinished ⌝ ∗ ⌜ k ≤ self .unfinished ⌝ }
-        ensures { λ r. ⌜ HasUnfinished self r (mergedStore (now (ut .exit)) (now (ui .exit)) (now (up .exit)) (now (uc .exit)) (now (ue .exit))) (drop k (keptUnfinished self (mergedStore (now (ut .entry)) (now (ui .entry)) (now (up .entry)) (now (uc .entry)) (now (ue .entry))))) ⌝ }
+        ensures { λ r. ⌜ (HasUnfinished self r (mergedStore (now (ut .exit)) (now (ui .exit)) (now (up .exit)) (now (uc .exit)) (now (ue .exit))) (drop k (keptUnfinished self (mergedStore (now (ut .entry)) (now (ui .entry)) (now (up .entry)) (now (uc .entry)) (now (ue .entry)))))) × (StaySized (self .unfinished) (mergedStore (now (ut .entry)) (now (ui .entry)) (now (up .entry)) (now (uc .entry)) (now (ue .entry))) (r .unfinished) (mergedStore (now (ut .exit)) (now (ui .exit)) (now (up .exit)) (now (uc .exit)) (now (ue .exit)))) ⌝ }
     {
         let n = self.unfinished;
         let left = n - k;
@@ -117,7 +120,7 @@ impl Stand {
         b: Bar,
     ) -> Stand
         requires { ⌜ CanMerge self (mergedStore (now ut) (now ui) (now up) (now uc) (now ue)) (mergeIn (keptUnfinished self (mergedStore (now ut) (now ui) (now up) (now uc) (now ue))) b) ⌝ }
-        ensures { λ r. ⌜ HasUnfinished self r (mergedStore (now (ut .exit)) (now (ui .exit)) (now (up .exit)) (now (uc .exit)) (now (ue .exit))) (mergeIn (keptUnfinished self (mergedStore (now (ut .entry)) (now (ui .entry)) (now (up .entry)) (now (uc .entry)) (now (ue .entry)))) b) ⌝ }
+        ensures { λ r. ⌜ (HasUnfinished self r (mergedStore (now (ut .exit)) (now (ui .exit)) (now (up .exit)) (now (uc .exit)) (now (ue .exit))) (mergeIn (keptUnfinished self (mergedStore (now (ut .entry)) (now (ui .entry)) (now (up .entry)) (now (uc .entry)) (now (ue .entry)))) b)) × (StaySized (self .unfinished) (mergedStore (now (ut .entry)) (now (ui .entry)) (now (up .entry)) (now (uc .entry)) (now (ue .entry))) (r .unfinished) (mergedStore (now (ut .exit)) (now (ui .exit)) (now (up .exit)) (now (uc .exit)) (now (ue .exit)))) ⌝ }
     {
         let n = self.unfinished;
         let mut stand = self;
@@ -154,7 +157,7 @@ impl Stand {
         t: i64,
     ) -> Stand
         requires { ⌜ RisingRaw self (rawStore (now rt) (now ri) (now rp)) ⌝ ∗ ⌜ CanMerge self (mergedStore (now ut) (now ui) (now up) (now uc) (now ue)) (mergeAll (keptUnfinished self (mergedStore (now ut) (now ui) (now up) (now uc) (now ue))) (atTimes (keptRaw self (rawStore (now rt) (now ri) (now rp))) (t ∷ []))) ⌝ }
-        ensures { λ r. ⌜ HasUnfinished self r (mergedStore (now (ut .exit)) (now (ui .exit)) (now (up .exit)) (now (uc .exit)) (now (ue .exit))) (mergeAll (keptUnfinished self (mergedStore (now (ut .entry)) (now (ui .entry)) (now (up .entry)) (now (uc .entry)) (now (ue .entry)))) (atTimes (keptRaw self (rawStore (now (rt .entry)) (now (ri .entry)) (now (rp .entry)))) (t ∷ []))) ⌝ }
+        ensures { λ r. ⌜ (HasUnfinished self r (mergedStore (now (ut .exit)) (now (ui .exit)) (now (up .exit)) (now (uc .exit)) (now (ue .exit))) (mergeAll (keptUnfinished self (mergedStore (now (ut .entry)) (now (ui .entry)) (now (up .entry)) (now (uc .entry)) (now (ue .entry)))) (atTimes (keptRaw self (rawStore (now (rt .entry)) (now (ri .entry)) (now (rp .entry)))) (t ∷ [])))) × (StaySized (self .unfinished) (mergedStore (now (ut .entry)) (now (ui .entry)) (now (up .entry)) (now (uc .entry)) (now (ue .entry))) (r .unfinished) (mergedStore (now (ut .exit)) (now (ui .exit)) (now (up .exit)) (now (uc .exit)) (now (ue .exit)))) ⌝ }
     {
         let n = self.raw;
         let p = bars::find_time(rt, n, t);
@@ -183,7 +186,7 @@ impl Stand {
         b: Bar,
     ) -> Stand
         requires { ⌜ RisingRaw self (rawStore (now rt) (now ri) (now rp)) ⌝ ∗ ⌜ LastHas self (mergedStore (now ut) (now ui) (now up) (now uc) (now ue)) ⌝ ∗ ⌜ CanMerge self (mergedStore (now ut) (now ui) (now up) (now uc) (now ue)) (mergedAgain (keptRaw self (rawStore (now rt) (now ri) (now rp))) (keptUnfinished self (mergedStore (now ut) (now ui) (now up) (now uc) (now ue))) b) ⌝ }
-        ensures { λ r. ⌜ HasUnfinished self r (mergedStore (now (ut .exit)) (now (ui .exit)) (now (up .exit)) (now (uc .exit)) (now (ue .exit))) (mergedAgain (keptRaw self (rawStore (now (rt .entry)) (now (ri .entry)) (now (rp .entry)))) (keptUnfinished self (mergedStore (now (ut .entry)) (now (ui .entry)) (now (up .entry)) (now (uc .entry)) (now (ue .entry)))) b) ⌝ }
+        ensures { λ r. ⌜ (HasUnfinished self r (mergedStore (now (ut .exit)) (now (ui .exit)) (now (up .exit)) (now (uc .exit)) (now (ue .exit))) (mergedAgain (keptRaw self (rawStore (now (rt .entry)) (now (ri .entry)) (now (rp .entry)))) (keptUnfinished self (mergedStore (now (ut .entry)) (now (ui .entry)) (now (up .entry)) (now (uc .entry)) (now (ue .entry)))) b)) × (StaySized (self .unfinished) (mergedStore (now (ut .entry)) (now (ui .entry)) (now (up .entry)) (now (uc .entry)) (now (ue .entry))) (r .unfinished) (mergedStore (now (ut .exit)) (now (ui .exit)) (now (up .exit)) (now (uc .exit)) (now (ue .exit)))) ⌝ }
     {
         let n = self.unfinished;
         let at = n - 1;
@@ -219,7 +222,7 @@ impl Stand {
         rows: usize,
     ) -> Stand
         requires { ⌜ CanJoin self (mergedStore (now ut) (now ui) (now up) (now uc) (now ue)) (mergedStore (now st) (now si) (now sp) (now sc) (now se)) at rows ⌝ }
-        ensures { λ r. ⌜ HasUnfinished (withoutLast self) r (mergedStore (now (ut .exit)) (now (ui .exit)) (now (up .exit)) (now (uc .exit)) (now (ue .exit))) (joined (storedStroke (mergedStore (now (st .entry)) (now (si .entry)) (now (sp .entry)) (now (sc .entry)) (now (se .entry))) at rows) (keptUnfinished self (mergedStore (now (ut .entry)) (now (ui .entry)) (now (up .entry)) (now (uc .entry)) (now (ue .entry))))) ⌝ }
+        ensures { λ r. ⌜ (HasUnfinished (withoutLast self) r (mergedStore (now (ut .exit)) (now (ui .exit)) (now (up .exit)) (now (uc .exit)) (now (ue .exit))) (joined (storedStroke (mergedStore (now (st .entry)) (now (si .entry)) (now (sp .entry)) (now (sc .entry)) (now (se .entry))) at rows) (keptUnfinished self (mergedStore (now (ut .entry)) (now (ui .entry)) (now (up .entry)) (now (uc .entry)) (now (ue .entry)))))) × (T (elementsSized (at + rows) (mergedStore (now (st .entry)) (now (si .entry)) (now (sp .entry)) (now (sc .entry)) (now (se .entry)))) → StaySized (self .unfinished) (mergedStore (now (ut .entry)) (now (ui .entry)) (now (up .entry)) (now (uc .entry)) (now (ue .entry))) (r .unfinished) (mergedStore (now (ut .exit)) (now (ui .exit)) (now (up .exit)) (now (uc .exit)) (now (ue .exit)))) ⌝ }
     {
         let n = self.unfinished;
         let kept = self.strokes - 1;

@@ -3,6 +3,7 @@ use mathlib.Core.Path.{refl}
 use Rattle.bars.specs.Stores.{mergedStore}
 use Rattle.strokes.specs.StoreSteps.{withUnfinished}
 use Rattle.strokes.proofs.StoredUnfinished.{begun-at}
+use Rattle.strokes.proofs.StoredCounts.{stay-begun}
 use Rattle.strokes.proofs.Stand.begin_at.Statement.{statement}
 use Rattle.strokes.proofs.Stand.begin_at.Tie as tie
 
@@ -31,7 +32,10 @@ returns : tie.Need-returns
 unfolding withUnfinished
 returns c =
     let a = c .before .before .before .before .before .before .before .before .before .before .before .before .before .args in
-    begun-at (a .self) _ (mergedStore (a .ut .now) (a .ui .now) (a .up .now) (a .uc .now) (a .ue .now)) _ (c .before .before .before .before .before .before .before .before .before .before .before .before .before .pre .0) (a .k) (c .before .before .before .before .before .before .before .before .before .before .before .before .before .pre .1 .0) (c .before .before .before .before .before .before .before .before .before .before .before .before .before .pre .1 .1) (c .before .before .before .before .before .before .move-new-bars-down .ensures) refl
+    let p = c .before .before .before .before .before .before .before .before .before .before .before .before .before .pre in
+    let m = mergedStore (a .ut .now) (a .ui .now) (a .up .now) (a .uc .now) (a .ue .now) in
+    let moved = c .before .before .before .before .before .before .move-new-bars-down .ensures in
+    (begun-at (a .self) _ m _ (p .0) (a .k) (p .1 .0) (p .1 .1) moved refl, stay-begun m _ (a .k) (a .self .unfinished) (a .self .rooms .unfinished) (p .0) (p .1 .1) (p .1 .0) moved)
 
 pub begin-at-spec : {M : Type 1} → statement M
 begin-at-spec =

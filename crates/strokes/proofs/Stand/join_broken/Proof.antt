@@ -9,6 +9,7 @@ use mir.ValLaws.{toZ-ofZ}
 use Rattle.bars.specs.Stores.{MergedStore, mergedStore, copiedMerged, placeOf}
 use Rattle.strokes.specs.StoreSteps.{withUnfinished, withoutLast}
 use Rattle.strokes.proofs.StoredUnfinished.{room-of, join-place, join-room, join-after, was-joined}
+use Rattle.strokes.proofs.StoredCounts.{stay-joined}
 use Rattle.strokes.proofs.Stand.join_broken.Statement.{statement}
 use Rattle.strokes.proofs.Stand.join_broken.Tie as tie
 
@@ -88,7 +89,9 @@ returns c =
     let k = mergedStore (a .st .now) (a .si .now) (a .sp .now) (a .sc .now) (a .se .now) in
     let t = toZ-ofZ w64 (getD (a .st .now) (a .at + (a .rows - 2)) (pos 0)) (record { sfits = c .before .before .before .before .before .before .before .before .before .before .before .before .before .before .before .before .before .before .before .before .before .before .before .before .before .before .t .given }) in
     let p = c .before .before .before .before .before .before .before .before .before .before .before .before .before .before .before .before .before .before .before .before .before .before .before .before .count-before .ensures ∙ ap (λ (x : ℤ). placeOf x (take (a .self .unfinished) (a .ut .now))) t in
-    was-joined (a .self) u k (a .at) (a .rows) _ (c .before .before .before .before .before .before .before .before .before .before .before .before .before .before .before .before .before .before .before .before .before .before .before .before .before .before .before .before .before .before .pre) p _ _ (c .before .before .before .before .before .before .join-new-bars .ensures ∙ ap (λ (x : MergedStore). copiedMerged x 0 k (a .at) (a .rows - 2)) (c .before .before .before .before .before .before .before .before .before .before .before .before .before .before .before .before .before .before .bring .ensures)) refl
+    let h = c .before .before .before .before .before .before .before .before .before .before .before .before .before .before .before .before .before .before .before .before .before .before .before .before .before .before .before .before .before .before .pre in
+    let joins = c .before .before .before .before .before .before .join-new-bars .ensures ∙ ap (λ (x : MergedStore). copiedMerged x 0 k (a .at) (a .rows - 2)) (c .before .before .before .before .before .before .before .before .before .before .before .before .before .before .before .before .before .before .bring .ensures) in
+    (was-joined (a .self) u k (a .at) (a .rows) _ h p _ _ joins refl, stay-joined (a .self) u k _ (a .at) (a .rows) _ h (join-place (a .self) u k (a .at) (a .rows) _ h p) (join-room (a .self) u k (a .at) (a .rows) _ h p) joins)
 
 pub join-broken-spec : {M : Type 1} → statement M
 join-broken-spec =

@@ -12,13 +12,15 @@ use Rattle.bars.specs.declared.NewBar.{NewBar}
 use Rattle.bars.specs.Merging.{mergeAll, atTimes}
 use Rattle.bars.specs.Stores.{rawStore, mergedStore, newBarAt}
 use Rattle.strokes.specs.StoreSteps.{keptRaw, keptUnfinished, withUnfinished}
+use Rattle.strokes.specs.ElementCounts.{StaySized}
 use Rattle.strokes.proofs.StoredUnfinished.{room-of}
 use Rattle.strokes.proofs.StoredAgain.{Going, going-first, going-sized, going-rising, going-fits, going-turn, last-fits, going-done, again-count, again-is, again-room}
+use Rattle.strokes.proofs.StoredCounts.{stay-fewer}
 use Rattle.strokes.proofs.Stand.put_again.Statement.{statement}
 use Rattle.strokes.proofs.Stand.put_again.Tie as tie
 
 abbrev Inv-loop : tie.InvT-loop
-Inv-loop rt ri rp ut₀ ui₀ up₀ uc₀ ue₀ b n at old elements stand₀ i₀ ut ui up uc ue stand i = (i ≤ old) × (length elements ≡ 101) × Going stand₀ stand (mergedStore ut ui up uc ue) (keptRaw stand₀ (rawStore rt ri rp)) (drop i (take old elements)) b (mergeAll (keptUnfinished stand₀ (mergedStore ut₀ ui₀ up₀ uc₀ ue₀)) (atTimes (keptRaw stand₀ (rawStore rt ri rp)) (take old elements) ++ b ∷ []))
+Inv-loop rt ri rp ut₀ ui₀ up₀ uc₀ ue₀ b n at old elements stand₀ i₀ ut ui up uc ue stand i = (i ≤ old) × (length elements ≡ 101) × Going stand₀ stand (mergedStore ut ui up uc ue) (keptRaw stand₀ (rawStore rt ri rp)) (drop i (take old elements)) b (mergeAll (keptUnfinished stand₀ (mergedStore ut₀ ui₀ up₀ uc₀ ue₀)) (atTimes (keptRaw stand₀ (rawStore rt ri rp)) (take old elements) ++ b ∷ [])) × StaySized (stand₀ .unfinished) (mergedStore ut₀ ui₀ up₀ uc₀ ue₀) (stand .unfinished) (mergedStore ut ui up uc ue)
 
 abbrev μ-loop : tie.MeasureT-loop
 μ-loop rt ri rp ut₀ ui₀ up₀ uc₀ ue₀ b n at old elements stand₀ i₀ ut ui up uc ue stand i = old - i
@@ -48,7 +50,7 @@ loop-holds c =
     let k = c .before .before .read-new-bar .result in
     let fits = h .fits in
     let row : length (k .elements) ≡ 101 = search needs in
-    (search needs, row, going-first (withUnfinished (a .self) (a .self .unfinished - 1)) (mergedStore (a .ut .now) (a .ui .now) (a .up .now) (a .uc .now) (a .ue .now)) (keptRaw (a .self) (rawStore (a .rt .now) (a .ri .now) (a .rp .now))) (take (k .count - 1) (k .elements)) (a .b) (h .unfinished) (omega arith))
+    (search needs, row, going-first (withUnfinished (a .self) (a .self .unfinished - 1)) (mergedStore (a .ut .now) (a .ui .now) (a .up .now) (a .uc .now) (a .ue .now)) (keptRaw (a .self) (rawStore (a .rt .now) (a .ri .now) (a .rp .now))) (take (k .count - 1) (k .elements)) (a .b) (h .unfinished) (omega arith), λ t. t)
 
 mul-t : tie.Need-mul-t Inv-loop μ-loop
 unfolding newBarAt
@@ -119,7 +121,8 @@ loop-again c =
     let room = again-room (a .self) u (keptRaw (a .self) m) (a .b) k h has (c .before .before .before .before .before .before .before .before .before .before .before .before .before .before .before .before .before .read-new-bar .ensures) row in
     let here = c .before .before .before .before .before .before .before .before .before .before .before .before .before .loop-test .taken in
     let t = toZ-ofZ w64 (getD (k .elements) (l .i) (pos 0)) (record { sfits = c .before .before .before .before .before .before .before .before .before .before .before .before .t .given }) ∙ sym (getD-take (k .count - 1) (k .elements) (l .i) (pos 0) here) in
-    (omega arith, row, going-turn s (l .stand) m _ (take (k .count - 1) (k .elements)) (a .b) _ (l .i) (l .inv .2) _ (omega arith) t _ _ (c .before .before .before .before .before .before .put-named .ensures) room)
+    let done = c .before .before .before .before .before .before .put-named .ensures in
+    (omega arith, row, going-turn s (l .stand) m _ (take (k .count - 1) (k .elements)) (a .b) _ (l .i) (l .inv .2) _ (omega arith) t _ _ (done .0) room, λ few. done .1 (l .inv .3 few))
 
 put-merged-requires : tie.Need-put-merged-requires Inv-loop μ-loop
 unfolding withUnfinished
@@ -149,7 +152,7 @@ same-length c =
     let s = withUnfinished (a .self) (a .self .unfinished - 1) in
     let m = rawStore (a .rt .now) (a .ri .now) (a .rp .now) in
     let h = c .before .before .before .before .before .before .before .before .before .before .before .before .before .before .before .before .before .before .before .before .before .before .before .pre .1 .1 in
-    (going-sized s (l .stand) m _ (take (k .count - 1) (k .elements)) (a .b) _ (l .i) (l .inv .2) _ (c .before .before .before .before .before .before .put-merged .ensures .sized)) .raw .times ∙ sym (h .unfinished .raw .times)
+    (going-sized s (l .stand) m _ (take (k .count - 1) (k .elements)) (a .b) _ (l .i) (l .inv .2) _ (c .before .before .before .before .before .before .put-merged .ensures .0 .sized)) .raw .times ∙ sym (h .unfinished .raw .times)
 
 same-length-2 : tie.Need-same-length-2 Inv-loop μ-loop
 unfolding withUnfinished
@@ -160,7 +163,7 @@ same-length-2 c =
     let s = withUnfinished (a .self) (a .self .unfinished - 1) in
     let m = rawStore (a .rt .now) (a .ri .now) (a .rp .now) in
     let h = c .before .before .before .before .before .before .before .before .before .before .before .before .before .before .before .before .before .before .before .before .before .before .before .pre .1 .1 in
-    (going-sized s (l .stand) m _ (take (k .count - 1) (k .elements)) (a .b) _ (l .i) (l .inv .2) _ (c .before .before .before .before .before .before .put-merged .ensures .sized)) .raw .ids ∙ sym (h .unfinished .raw .ids)
+    (going-sized s (l .stand) m _ (take (k .count - 1) (k .elements)) (a .b) _ (l .i) (l .inv .2) _ (c .before .before .before .before .before .before .put-merged .ensures .0 .sized)) .raw .ids ∙ sym (h .unfinished .raw .ids)
 
 same-length-3 : tie.Need-same-length-3 Inv-loop μ-loop
 unfolding withUnfinished
@@ -171,7 +174,7 @@ same-length-3 c =
     let s = withUnfinished (a .self) (a .self .unfinished - 1) in
     let m = rawStore (a .rt .now) (a .ri .now) (a .rp .now) in
     let h = c .before .before .before .before .before .before .before .before .before .before .before .before .before .before .before .before .before .before .before .before .before .before .before .pre .1 .1 in
-    (going-sized s (l .stand) m _ (take (k .count - 1) (k .elements)) (a .b) _ (l .i) (l .inv .2) _ (c .before .before .before .before .before .before .put-merged .ensures .sized)) .raw .prices ∙ sym (h .unfinished .raw .prices)
+    (going-sized s (l .stand) m _ (take (k .count - 1) (k .elements)) (a .b) _ (l .i) (l .inv .2) _ (c .before .before .before .before .before .before .put-merged .ensures .0 .sized)) .raw .prices ∙ sym (h .unfinished .raw .prices)
 
 same-length-4 : tie.Need-same-length-4 Inv-loop μ-loop
 unfolding withUnfinished
@@ -182,7 +185,7 @@ same-length-4 c =
     let s = withUnfinished (a .self) (a .self .unfinished - 1) in
     let m = rawStore (a .rt .now) (a .ri .now) (a .rp .now) in
     let h = c .before .before .before .before .before .before .before .before .before .before .before .before .before .before .before .before .before .before .before .before .before .before .before .pre .1 .1 in
-    (going-sized s (l .stand) m _ (take (k .count - 1) (k .elements)) (a .b) _ (l .i) (l .inv .2) _ (c .before .before .before .before .before .before .put-merged .ensures .sized)) .counts ∙ sym (h .unfinished .counts)
+    (going-sized s (l .stand) m _ (take (k .count - 1) (k .elements)) (a .b) _ (l .i) (l .inv .2) _ (c .before .before .before .before .before .before .put-merged .ensures .0 .sized)) .counts ∙ sym (h .unfinished .counts)
 
 same-length-5 : tie.Need-same-length-5 Inv-loop μ-loop
 unfolding withUnfinished
@@ -193,7 +196,7 @@ same-length-5 c =
     let s = withUnfinished (a .self) (a .self .unfinished - 1) in
     let m = rawStore (a .rt .now) (a .ri .now) (a .rp .now) in
     let h = c .before .before .before .before .before .before .before .before .before .before .before .before .before .before .before .before .before .before .before .before .before .before .before .pre .1 .1 in
-    (going-sized s (l .stand) m _ (take (k .count - 1) (k .elements)) (a .b) _ (l .i) (l .inv .2) _ (c .before .before .before .before .before .before .put-merged .ensures .sized)) .elements ∙ sym (h .unfinished .elements)
+    (going-sized s (l .stand) m _ (take (k .count - 1) (k .elements)) (a .b) _ (l .i) (l .inv .2) _ (c .before .before .before .before .before .before .put-merged .ensures .0 .sized)) .elements ∙ sym (h .unfinished .elements)
 
 returns : tie.Need-returns Inv-loop μ-loop
 unfolding withUnfinished
@@ -211,7 +214,8 @@ returns c =
     let count = again-count (a .self) u (keptRaw (a .self) m) (a .b) k h has (c .before .before .before .before .before .before .before .before .before .before .before .before .before .before .before .before .read-new-bar .ensures) row in
     let size = length-take-le (k .count - 1) (k .elements) (omega arith) in
     let over = c .before .before .before .before .before .before .before .before .before .before .before .before .loop-test .left in
-    going-done s (l .stand) m _ (take (k .count - 1) (k .elements)) (a .b) _ (l .i) (l .inv .2) (omega arith) (a .self) _ (a .self .unfinished - 1) _ _ refl (again-is (a .self) u (keptRaw (a .self) m) (a .b) k h has (c .before .before .before .before .before .before .before .before .before .before .before .before .before .before .before .before .read-new-bar .ensures) row) (c .before .before .before .before .before .before .put-merged .ensures)
+    let done = c .before .before .before .before .before .before .put-merged .ensures in
+    (going-done s (l .stand) m _ (take (k .count - 1) (k .elements)) (a .b) _ (l .i) (l .inv .2) (omega arith) (a .self) _ (a .self .unfinished - 1) _ _ refl (again-is (a .self) u (keptRaw (a .self) m) (a .b) k h has (c .before .before .before .before .before .before .before .before .before .before .before .before .before .before .before .before .read-new-bar .ensures) row) (done .0), λ few-all. done .1 (l .inv .3 (stay-fewer u (a .self .unfinished - 1) (a .self .unfinished) (omega arith) few-all)))
 
 pub put-again-spec : {M : Type 1} → statement M
 put-again-spec =

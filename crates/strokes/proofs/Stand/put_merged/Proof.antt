@@ -5,6 +5,7 @@ use Rattle.bars.specs.declared.Bar.{Bar}
 use Rattle.bars.specs.Stores.{mergedStore}
 use Rattle.strokes.specs.StoreSteps.{withUnfinished}
 use Rattle.strokes.proofs.StoredUnfinished.{room-of, few-room, own-put, merged-put, apart-room, apart-put}
+use Rattle.strokes.proofs.StoredCounts.{stay-put, stay-last}
 use Rattle.strokes.proofs.Stand.put_merged.Statement.{statement}
 use Rattle.strokes.proofs.Stand.put_merged.Tie as tie
 
@@ -43,7 +44,12 @@ returns c =
     let a = c .before .before .before .before .before .before .before .before .before .before .before .before .before .before .before .args in
     let m = mergedStore (a .ut .now) (a .ui .now) (a .up .now) (a .uc .now) (a .ue .now) in
     let h = c .before .before .before .before .before .before .before .before .before .before .before .before .before .before .before .pre in
-    own-put (a .self) _ m _ (h .unfinished) (a .b) (c .before .before .before .before .before .before .before .before .before .before .before .before .new-from-raw .result) (c .before .before .before .before .before .before .before .before .before .before .before .before .before .if1 .taken) (few-room (a .self) m (a .b) h (c .before .before .before .before .before .before .before .before .before .before .before .before .before .if1 .taken)) (c .before .before .before .before .before .before .before .before .before .before .before .before .new-from-raw .ensures) (c .before .before .before .before .before .before .write-new-bar .ensures) refl
+    let few = c .before .before .before .before .before .before .before .before .before .before .before .before .before .if1 .taken in
+    let room = few-room (a .self) m (a .b) h few in
+    let own = c .before .before .before .before .before .before .before .before .before .before .before .before .new-from-raw in
+    let one = own .ensures .1 in
+    let wrote = c .before .before .before .before .before .before .write-new-bar .ensures in
+    (own-put (a .self) _ m _ (h .unfinished) (a .b) (own .result) few room (own .ensures .0) wrote refl, stay-put m _ (a .self .unfinished) (a .self .rooms .unfinished) (own .result) (h .unfinished) room (omega arith) wrote)
 
 read-bar-requires : tie.Need-read-bar-requires
 read-bar-requires c κs = search needs
@@ -90,15 +96,19 @@ returns-2 c =
     let a = c .before .before .before .before .before .before .before .before .before .before .before .before .before .before .before .before .before .before .before .before .before .before .before .before .before .before .before .args in
     let h = c .before .before .before .before .before .before .before .before .before .before .before .before .before .before .before .before .before .before .before .before .before .before .before .before .before .before .before .pre in
     let f = c .before .before .before .before .before .before .before .before .before .before .before .before .before .before .remove-include in
-    merged-put (a .self) _ (mergedStore (a .ut .now) (a .ui .now) (a .up .now) (a .uc .now) (a .ue .now)) _ (h .unfinished) (a .b) (f .result .bar) (c .before .before .before .before .before .before .before .before .before .before .before .before .before .before .before .before .before .before .before .before .before .read-bar .result .high) (c .before .before .before .before .before .before .before .before .before .before .before .before .before .before .before .read-new-bar .result) (f .result .merged)
-    (c .before .before .before .before .before .before .before .before .before .before .before .before .before .before .before .before .before .before .before .before .before .before .before .before .before .if1 .left)
-    (h .fits)
-    (ap (λ (k : Bar). k .high) (c .before .before .before .before .before .before .before .before .before .before .before .before .before .before .before .before .before .before .before .before .before .read-bar .ensures))
-    (c .before .before .before .before .before .before .before .before .before .before .before .before .before .before .before .read-new-bar .ensures)
-    (f .ensures)
-    (c .before .before .before .before .before .before .before .before .before .before .before .before .if2 .taken)
-    (c .before .before .before .before .before .before .write-new-bar2 .ensures)
-    refl
+    let m = mergedStore (a .ut .now) (a .ui .now) (a .up .now) (a .uc .now) (a .ue .now) in
+    let two = c .before .before .before .before .before .before .before .before .before .before .before .before .before .before .before .before .before .before .before .before .before .before .before .before .before .if1 .left in (
+      merged-put (a .self) _ m _ (h .unfinished) (a .b) (f .result .bar) (c .before .before .before .before .before .before .before .before .before .before .before .before .before .before .before .before .before .before .before .before .before .read-bar .result .high) (c .before .before .before .before .before .before .before .before .before .before .before .before .before .before .before .read-new-bar .result) (f .result .merged)
+          (c .before .before .before .before .before .before .before .before .before .before .before .before .before .before .before .before .before .before .before .before .before .before .before .before .before .if1 .left)
+          (h .fits)
+          (ap (λ (k : Bar). k .high) (c .before .before .before .before .before .before .before .before .before .before .before .before .before .before .before .before .before .before .before .before .before .read-bar .ensures))
+          (c .before .before .before .before .before .before .before .before .before .before .before .before .before .before .before .read-new-bar .ensures)
+          (f .ensures .0)
+          (c .before .before .before .before .before .before .before .before .before .before .before .before .if2 .taken)
+          (c .before .before .before .before .before .before .write-new-bar2 .ensures)
+          refl,
+      stay-last m _ (a .self .unfinished) (a .self .rooms .unfinished) (f .result .bar) (h .unfinished) (omega arith) (h .fits) (f .ensures .1) (c .before .before .before .before .before .before .write-new-bar2 .ensures),
+    )
 
 write-new-bar-requires-3 : tie.Need-write-new-bar-requires-3
 write-new-bar-requires-3 c κs =
@@ -106,7 +116,7 @@ write-new-bar-requires-3 c κs =
     let h = c .before .before .before .before .before .before .before .before .before .before .before .before .before .before .before .before .before .before .before .before .pre in
     let f = c .before .before .before .before .before .before .before .remove-include in
     let m = mergedStore (a .ut .now) (a .ui .now) (a .up .now) (a .uc .now) (a .ue .now) in
-    let g = apart-room (a .self) (a .self) m m (h .unfinished) (a .b) (f .result .bar) (c .before .before .before .before .before .before .before .before .before .before .before .before .before .before .read-bar .result .high) (c .before .before .before .before .before .before .before .before .read-new-bar .result) (f .result .merged) (c .before .before .before .before .before .before .before .before .before .before .before .before .before .before .before .before .before .before .if1 .left) (h .fits) (ap (λ (k : Bar). k .high) (c .before .before .before .before .before .before .before .before .before .before .before .before .before .before .read-bar .ensures)) (c .before .before .before .before .before .before .before .before .read-new-bar .ensures) (f .ensures) (c .before .before .before .before .before .if2 .left) (h .room) in
+    let g = apart-room (a .self) (a .self) m m (h .unfinished) (a .b) (f .result .bar) (c .before .before .before .before .before .before .before .before .before .before .before .before .before .before .read-bar .result .high) (c .before .before .before .before .before .before .before .before .read-new-bar .result) (f .result .merged) (c .before .before .before .before .before .before .before .before .before .before .before .before .before .before .before .before .before .before .if1 .left) (h .fits) (ap (λ (k : Bar). k .high) (c .before .before .before .before .before .before .before .before .before .before .before .before .before .before .read-bar .ensures)) (c .before .before .before .before .before .before .before .before .read-new-bar .ensures) (f .ensures .0) (c .before .before .before .before .before .if2 .left) (h .room) in
     room-of m (a .self .rooms .unfinished) _ (h .unfinished) (omega arith)
 
 add-stand-2 : tie.Need-add-stand-2
@@ -115,7 +125,7 @@ add-stand-2 c =
     let h = c .before .before .before .before .before .before .before .before .before .before .before .before .before .before .before .before .before .before .before .before .before .before .before .before .before .before .before .pre in
     let f = c .before .before .before .before .before .before .before .before .before .before .before .before .before .before .remove-include in
     let m = mergedStore (a .ut .now) (a .ui .now) (a .up .now) (a .uc .now) (a .ue .now) in
-    let g = apart-room (a .self) (a .self) m m (h .unfinished) (a .b) (f .result .bar) (c .before .before .before .before .before .before .before .before .before .before .before .before .before .before .before .before .before .before .before .before .before .read-bar .result .high) (c .before .before .before .before .before .before .before .before .before .before .before .before .before .before .before .read-new-bar .result) (f .result .merged) (c .before .before .before .before .before .before .before .before .before .before .before .before .before .before .before .before .before .before .before .before .before .before .before .before .before .if1 .left) (h .fits) (ap (λ (k : Bar). k .high) (c .before .before .before .before .before .before .before .before .before .before .before .before .before .before .before .before .before .before .before .before .before .read-bar .ensures)) (c .before .before .before .before .before .before .before .before .before .before .before .before .before .before .before .read-new-bar .ensures) (f .ensures) (c .before .before .before .before .before .before .before .before .before .before .before .before .if2 .left) (h .room) in
+    let g = apart-room (a .self) (a .self) m m (h .unfinished) (a .b) (f .result .bar) (c .before .before .before .before .before .before .before .before .before .before .before .before .before .before .before .before .before .before .before .before .before .read-bar .result .high) (c .before .before .before .before .before .before .before .before .before .before .before .before .before .before .before .read-new-bar .result) (f .result .merged) (c .before .before .before .before .before .before .before .before .before .before .before .before .before .before .before .before .before .before .before .before .before .before .before .before .before .if1 .left) (h .fits) (ap (λ (k : Bar). k .high) (c .before .before .before .before .before .before .before .before .before .before .before .before .before .before .before .before .before .before .before .before .before .read-bar .ensures)) (c .before .before .before .before .before .before .before .before .before .before .before .before .before .before .before .read-new-bar .ensures) (f .ensures .0) (c .before .before .before .before .before .before .before .before .before .before .before .before .if2 .left) (h .room) in
     let e = h .unfinished .raw .times in
     omega (arith, c .before .before .before .before .before .before .before .before .before .before .before .before .before .before .before .before .before .before .before .before .before .before .before .before .before .before .before .good .1 .0 .0)
 
@@ -141,17 +151,19 @@ returns-3 c =
     let h = c .before .before .before .before .before .before .before .before .before .before .before .before .before .before .before .before .before .before .before .before .before .before .before .before .before .before .before .pre in
     let f = c .before .before .before .before .before .before .before .before .before .before .before .before .before .before .remove-include in
     let m = mergedStore (a .ut .now) (a .ui .now) (a .up .now) (a .uc .now) (a .ue .now) in
-    let g = apart-room (a .self) (a .self) m m (h .unfinished) (a .b) (f .result .bar) (c .before .before .before .before .before .before .before .before .before .before .before .before .before .before .before .before .before .before .before .before .before .read-bar .result .high) (c .before .before .before .before .before .before .before .before .before .before .before .before .before .before .before .read-new-bar .result) (f .result .merged) (c .before .before .before .before .before .before .before .before .before .before .before .before .before .before .before .before .before .before .before .before .before .before .before .before .before .if1 .left) (h .fits) (ap (λ (k : Bar). k .high) (c .before .before .before .before .before .before .before .before .before .before .before .before .before .before .before .before .before .before .before .before .before .read-bar .ensures)) (c .before .before .before .before .before .before .before .before .before .before .before .before .before .before .before .read-new-bar .ensures) (f .ensures) (c .before .before .before .before .before .before .before .before .before .before .before .before .if2 .left) (h .room) in
-    apart-put (a .self) _ m _ (h .unfinished) (a .b) (f .result .bar) (c .before .before .before .before .before .before .before .before .before .before .before .before .before .before .before .before .before .before .before .before .before .read-bar .result .high) (c .before .before .before .before .before .before .before .before .before .before .before .before .before .before .before .read-new-bar .result) (f .result .merged)
-    (c .before .before .before .before .before .before .before .before .before .before .before .before .before .before .before .before .before .before .before .before .before .before .before .before .before .if1 .left)
-    (h .fits)
-    (ap (λ (k : Bar). k .high) (c .before .before .before .before .before .before .before .before .before .before .before .before .before .before .before .before .before .before .before .before .before .read-bar .ensures))
-    (c .before .before .before .before .before .before .before .before .before .before .before .before .before .before .before .read-new-bar .ensures)
-    (f .ensures)
-    (c .before .before .before .before .before .before .before .before .before .before .before .before .if2 .left)
-    g
-    (c .before .before .before .before .before .before .write-new-bar3 .ensures)
-    refl
+    let g = apart-room (a .self) (a .self) m m (h .unfinished) (a .b) (f .result .bar) (c .before .before .before .before .before .before .before .before .before .before .before .before .before .before .before .before .before .before .before .before .before .read-bar .result .high) (c .before .before .before .before .before .before .before .before .before .before .before .before .before .before .before .read-new-bar .result) (f .result .merged) (c .before .before .before .before .before .before .before .before .before .before .before .before .before .before .before .before .before .before .before .before .before .before .before .before .before .if1 .left) (h .fits) (ap (λ (k : Bar). k .high) (c .before .before .before .before .before .before .before .before .before .before .before .before .before .before .before .before .before .before .before .before .before .read-bar .ensures)) (c .before .before .before .before .before .before .before .before .before .before .before .before .before .before .before .read-new-bar .ensures) (f .ensures .0) (c .before .before .before .before .before .before .before .before .before .before .before .before .if2 .left) (h .room) in (
+      apart-put (a .self) _ m _ (h .unfinished) (a .b) (f .result .bar) (c .before .before .before .before .before .before .before .before .before .before .before .before .before .before .before .before .before .before .before .before .before .read-bar .result .high) (c .before .before .before .before .before .before .before .before .before .before .before .before .before .before .before .read-new-bar .result) (f .result .merged)
+          (c .before .before .before .before .before .before .before .before .before .before .before .before .before .before .before .before .before .before .before .before .before .before .before .before .before .if1 .left)
+          (h .fits)
+          (ap (λ (k : Bar). k .high) (c .before .before .before .before .before .before .before .before .before .before .before .before .before .before .before .before .before .before .before .before .before .read-bar .ensures))
+          (c .before .before .before .before .before .before .before .before .before .before .before .before .before .before .before .read-new-bar .ensures)
+          (f .ensures .0)
+          (c .before .before .before .before .before .before .before .before .before .before .before .before .if2 .left)
+          g
+          (c .before .before .before .before .before .before .write-new-bar3 .ensures)
+          refl,
+      stay-put m _ (a .self .unfinished) (a .self .rooms .unfinished) (f .result .bar) (h .unfinished) g (f .ensures .1) (c .before .before .before .before .before .before .write-new-bar3 .ensures),
+    )
 
 pub put-merged-spec : {M : Type 1} → statement M
 put-merged-spec =

@@ -31,9 +31,11 @@ returns c =
     let e = toZ-ofZ w64 (a .t) (c .before .before .before .before .before .fits .t) in
     let p = c .before .before .before .find-time .ensures ∙ ap (λ (x : ℤ). placeOf x (take (a .self .raw) (a .rt .now))) e in
     let x = getD (a .rt .now) (c .before .before .before .find-time .result) (pos 0) in
-    let q = toZ-ofZ w64 x (record { sfits = c .before .if22 .given }) in
-    none-named (a .self) (a .self) u u (atTimes (keptRaw (a .self) m) (a .t ∷ [])) (c .before .before .before .before .before .pre .1)
-    (none-there (a .self) m (c .before .before .before .before .before .pre .0) (a .t) (c .before .before .before .find-time .result) p (toZ w64 (ofZ w64 x)) (c .before .before .if1 .taken) q (ap (λ (y : ℤ). ltZ y (toZ w64 (ofZ w64 x))) (sym e) ∙ c .if2 .taken))
+    let q = toZ-ofZ w64 x (record { sfits = c .before .if22 .given }) in (
+      none-named (a .self) (a .self) u u (atTimes (keptRaw (a .self) m) (a .t ∷ [])) (c .before .before .before .before .before .pre .1)
+          (none-there (a .self) m (c .before .before .before .before .before .pre .0) (a .t) (c .before .before .before .find-time .result) p (toZ w64 (ofZ w64 x)) (c .before .before .if1 .taken) q (ap (λ (y : ℤ). ltZ y (toZ w64 (ofZ w64 x))) (sym e) ∙ c .if2 .taken)),
+      λ t. t,
+    )
 
 read-bar-requires : tie.Need-read-bar-requires
 read-bar-requires c κs = search needs
@@ -74,9 +76,12 @@ returns-2 c =
     let p = c .before .before .before .before .before .before .before .before .before .before .before .before .before .before .before .before .find-time .ensures ∙ ap (λ (x : ℤ). placeOf x (take (a .self .raw) (a .rt .now))) e in
     let x = getD (a .rt .now) (c .before .before .before .before .before .before .before .before .before .before .before .before .before .before .before .before .find-time .result) (pos 0) in
     let q = toZ-ofZ w64 x (record { sfits = c .before .before .before .before .before .before .before .before .before .before .before .before .before .before .if22 .given }) in
-    one-named (a .self) _ u _ (atTimes (keptRaw (a .self) m) (a .t ∷ [])) (c .before .before .before .before .before .before .before .before .before .before .before .before .read-bar .result)
-    (one-there (a .self) m (c .before .before .before .before .before .before .before .before .before .before .before .before .before .before .before .before .before .before .pre .0) (a .t) (c .before .before .before .before .before .before .before .before .before .before .before .before .before .before .before .before .find-time .result) p (toZ w64 (ofZ w64 x)) (c .before .before .before .before .before .before .before .before .before .before .before .before .before .before .before .if1 .taken) q (ap (λ (y : ℤ). ltZ y (toZ w64 (ofZ w64 x))) (sym e) ∙ c .before .before .before .before .before .before .before .before .before .before .before .before .before .if2 .left) ∙ ap (λ b. b ∷ []) (sym (c .before .before .before .before .before .before .before .before .before .before .before .before .read-bar .ensures)))
-    (c .before .before .before .before .before .before .put-merged .ensures)
+    let done = c .before .before .before .before .before .before .put-merged .ensures in (
+      one-named (a .self) _ u _ (atTimes (keptRaw (a .self) m) (a .t ∷ [])) (c .before .before .before .before .before .before .before .before .before .before .before .before .read-bar .result)
+          (one-there (a .self) m (c .before .before .before .before .before .before .before .before .before .before .before .before .before .before .before .before .before .before .pre .0) (a .t) (c .before .before .before .before .before .before .before .before .before .before .before .before .before .before .before .before .find-time .result) p (toZ w64 (ofZ w64 x)) (c .before .before .before .before .before .before .before .before .before .before .before .before .before .before .before .if1 .taken) q (ap (λ (y : ℤ). ltZ y (toZ w64 (ofZ w64 x))) (sym e) ∙ c .before .before .before .before .before .before .before .before .before .before .before .before .before .if2 .left) ∙ ap (λ b. b ∷ []) (sym (c .before .before .before .before .before .before .before .before .before .before .before .before .read-bar .ensures)))
+          (done .0),
+      done .1,
+    )
 
 returns-3 : tie.Need-returns-3
 returns-3 c =
@@ -85,7 +90,7 @@ returns-3 c =
     let u = mergedStore (a .ut .now) (a .ui .now) (a .up .now) (a .uc .now) (a .ue .now) in
     let e = toZ-ofZ w64 (a .t) (c .before .before .before .fits .t) in
     let p = c .before .find-time .ensures ∙ ap (λ (x : ℤ). placeOf x (take (a .self .raw) (a .rt .now))) e in
-    none-named (a .self) (a .self) u u (atTimes (keptRaw (a .self) m) (a .t ∷ [])) (c .before .before .before .pre .1) (none-past (a .self) m (c .before .before .before .pre .0) (a .t) (c .before .find-time .result) p (c .if1 .left))
+    (none-named (a .self) (a .self) u u (atTimes (keptRaw (a .self) m) (a .t ∷ [])) (c .before .before .before .pre .1) (none-past (a .self) m (c .before .before .before .pre .0) (a .t) (c .before .find-time .result) p (c .if1 .left)), λ t. t)
 
 pub put-named-spec : {M : Type 1} → statement M
 put-named-spec =

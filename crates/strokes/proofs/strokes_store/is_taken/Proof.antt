@@ -1,6 +1,6 @@
 use Rattle.strokes.proofs.StoredFractals.{last-some}
 use Rattle.strokes.specs.StrokeStore.{lastOf}
-use Rattle.strokes.specs.Fractals.{taken}
+use Rattle.machine.specs.Fractals.{taken}
 use mathlib.Core.Bool.{not}
 use mathlib.Core.Path.{ap}
 use borrow.Author.Needs.{needs}

@@ -1,5 +1,5 @@
 use Rattle.strokes.proofs.StoredStrokes.{row-top}
-use Rattle.strokes.specs.Strokes.{directionOf}
+use Rattle.machine.specs.Strokes.{directionOf}
 use mathlib.Core.Bool.{true, false}
 use mathlib.Core.Path.{ap, sym}
 use borrow.Author.Needs.{needs}

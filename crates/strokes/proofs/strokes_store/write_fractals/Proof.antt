@@ -1,8 +1,8 @@
 use Rattle.strokes.proofs.StoredFractals.{plains, Going, write-start, write-more, write-turn, write-end}
 use Rattle.strokes.specs.StrokeStore.{lastOf, writing, fractalsOf}
 use Rattle.strokes.specs.Stored.{fractalStore}
-use Rattle.strokes.specs.Fractals.{fxsAfter}
-use Rattle.strokes.specs.declared.Mark.the-variants.{D}
+use Rattle.machine.specs.Fractals.{fxsAfter}
+use Rattle.machine.specs.declared.Mark.the-variants.{D}
 use Rattle.bars.specs.Stores.{rawStore}
 use lib.ListN.{length, drop}
 use mathlib.Core.Path.{_≡_, refl}

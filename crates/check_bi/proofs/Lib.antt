@@ -1,0 +1,3 @@
+pub mod ScanPlaces
+pub mod ScanSteps
+pub mod ScanViews

@@ -1,0 +1,425 @@
+// The search for a stroke in one pass over the unfinished bars.
+ghost use mathlib.Core.Path.{_≡_};
+ghost use mathlib.Core.Bool.{true, false};
+ghost use mathlib.Core.List.{[]};
+ghost use Prim.Native.Nat.{_+_, _-_, _≤_, _<_};
+ghost use lib.ListN.{length, getD, drop};
+ghost use lib.IntN.{pos};
+ghost use Rattle.machine.specs.Fractals.{sameMark, beyond};
+ghost use Rattle.check_bi.specs.Scan.{fxAt, valueOf, topOf, bottomOf, candidateOf, cutWith, closesOf, uptoWith, putOf, noFx, blank, openedOf, takeOf, stepOf, Small, scanOf, holdsOf, foundIf, foundOf};
+ghost use Rattle.check_bi.specs.View.{view, candleFrom, candles};
+use machine::Mark;
+
+// Of a merged bar, what fractals and strokes are found by.
+pub struct Candle {
+    pub time: i64,
+    pub high: f64,
+    pub low: f64,
+}
+
+// FX of the source, without its bars: the place of the first of them, and the middle one's time, high and low.
+pub struct Fx {
+    pub place: usize,
+    pub mark: Mark,
+    pub time: i64,
+    pub high: f64,
+    pub low: f64,
+}
+
+// What has been seen so far: how many fractals were taken, the last one's mark, the first one, the
+// one that the first stroke's cut would begin on, the best candidate, if there is one, and how many
+// fractals the stroke to it has.
+pub struct Scan {
+    pub count: usize,
+    pub last: Mark,
+    pub start: Fx,
+    pub cut: Fx,
+    pub found: bool,
+    pub end: Fx,
+    pub upto: usize,
+}
+
+// What check_bi finds, by place: whether a stroke is made, and then its ends and how many merged bars and fractals it has.
+pub struct FoundBi {
+    pub made: bool,
+    pub start: Fx,
+    pub end: Fx,
+    pub bars: usize,
+    pub fractals: usize,
+}
+
+pub fn same_mark(a: Mark, b: Mark) -> bool
+    ensures { λ r. ⌜ r ≡ sameMark a b ⌝ }
+{
+    match a {
+        Mark::D => match b {
+            Mark::D => true,
+            Mark::G => false,
+        },
+        Mark::G => match b {
+            Mark::D => false,
+            Mark::G => true,
+        },
+    }
+}
+
+// a is strictly beyond b: higher for tops, lower for bottoms.
+fn is_beyond(m: Mark, a: f64, b: f64) -> bool
+    ensures { λ r. ⌜ r ≡ beyond m a b ⌝ }
+{
+    match m {
+        Mark::D => a < b,
+        Mark::G => b < a,
+    }
+}
+
+// fx: a top's high, a bottom's low.
+fn value(f: Fx) -> f64
+    ensures { λ r. ⌜ r ≡ valueOf f ⌝ }
+{
+    let m = f.mark;
+    match m {
+        Mark::D => f.low,
+        Mark::G => f.high,
+    }
+}
+
+pub fn is_top(a: Candle, b: Candle, c: Candle) -> bool
+    ensures { λ r. ⌜ r ≡ topOf a b c ⌝ }
+{
+    if a.high < b.high {
+        if c.high < b.high {
+            if a.low < b.low {
+                return c.low < b.low;
+            }
+        }
+    }
+    false
+}
+
+pub fn is_bottom(a: Candle, b: Candle, c: Candle) -> bool
+    ensures { λ r. ⌜ r ≡ bottomOf a b c ⌝ }
+{
+    if b.low < a.low {
+        if b.low < c.low {
+            if b.high < a.high {
+                return b.high < c.high;
+            }
+        }
+    }
+    false
+}
+
+fn fx_at(i: usize, m: Mark, b: Candle) -> Fx
+    ensures { λ r. ⌜ r ≡ fxAt i m b ⌝ }
+{
+    Fx {
+        place: i,
+        mark: m,
+        time: b.time,
+        high: b.high,
+        low: b.low,
+    }
+}
+
+// Whether f can end a stroke from s.
+fn is_candidate(s: Fx, f: Fx) -> bool
+    ensures { λ r. ⌜ r ≡ candidateOf s f ⌝ }
+{
+    let m = s.mark;
+    let k = f.mark;
+    if same_mark(m, k) {
+        return false;
+    }
+    if s.time < f.time {
+        let x = value(f);
+        let y = value(s);
+        return is_beyond(k, x, y);
+    }
+    false
+}
+
+// The one to cut on: the most extreme of the first one's mark, the last if tied.
+fn cut_with(a: Fx, f: Fx) -> Fx
+    ensures { λ r. ⌜ r ≡ cutWith a f ⌝ }
+{
+    let m = a.mark;
+    let k = f.mark;
+    if same_mark(m, k) {
+        let x = value(a);
+        let y = value(f);
+        if is_beyond(m, x, y) {
+            return a;
+        }
+        return f;
+    }
+    a
+}
+
+// Whether f becomes the end.
+fn closes(s: Scan, f: Fx) -> bool
+    ensures { λ r. ⌜ r ≡ closesOf s f ⌝ }
+{
+    let start = s.start;
+    if is_candidate(start, f) {
+        if s.found {
+            let end = s.end;
+            let m = f.mark;
+            let x = value(f);
+            let y = value(end);
+            return is_beyond(m, x, y);
+        }
+        return true;
+    }
+    false
+}
+
+// How many fractals the stroke so far has, with one at place i that does not become its end.
+fn upto_with(s: Scan, i: usize) -> usize
+    requires { ⌜ Small s i ⌝ }
+    ensures { λ r. ⌜ r ≡ uptoWith s i ⌝ }
+{
+    let end = s.end;
+    let e = end.place;
+    if s.found {
+        if i <= e + 1 {
+            return s.upto + 1;
+        }
+    }
+    s.upto
+}
+
+// A fractal after the first is taken.
+fn put(s: Scan, f: Fx) -> Scan
+    requires { ⌜ Small s (f .place) ⌝ }
+    ensures { λ r. ⌜ r ≡ putOf s f ⌝ }
+{
+    let start = s.start;
+    let old = s.cut;
+    let cut = cut_with(old, f);
+    let n = s.count + 1;
+    let m = f.mark;
+    let i = f.place;
+    if closes(s, f) {
+        return Scan {
+            count: n,
+            last: m,
+            start: start,
+            cut: cut,
+            found: true,
+            end: f,
+            upto: n,
+        };
+    }
+    let u = upto_with(s, i);
+    let end = s.end;
+    Scan {
+        count: n,
+        last: m,
+        start: start,
+        cut: cut,
+        found: s.found,
+        end: end,
+        upto: u,
+    }
+}
+
+fn no_fx() -> Fx
+    ensures { λ r. ⌜ r ≡ noFx ⌝ }
+{
+    let m = Mark::D;
+    Fx {
+        place: 0,
+        mark: m,
+        time: 0,
+        high: 0.0,
+        low: 0.0,
+    }
+}
+
+// Before the first window.
+fn blank_scan() -> Scan
+    ensures { λ r. ⌜ r ≡ blank ⌝ }
+{
+    let z = no_fx();
+    let m = Mark::D;
+    Scan {
+        count: 0,
+        last: m,
+        start: z,
+        cut: z,
+        found: false,
+        end: z,
+        upto: 0,
+    }
+}
+
+// The first fractal is taken.
+fn opened(f: Fx) -> Scan
+    ensures { λ r. ⌜ r ≡ openedOf f ⌝ }
+{
+    let m = f.mark;
+    Scan {
+        count: 1,
+        last: m,
+        start: f,
+        cut: f,
+        found: false,
+        end: f,
+        upto: 0,
+    }
+}
+
+// A fractal is taken, unless it has the mark of the last one taken.
+fn take(s: Scan, f: Fx) -> Scan
+    requires { ⌜ Small s (f .place) ⌝ }
+    ensures { λ r. ⌜ r ≡ takeOf s f ⌝ }
+{
+    if s.count == 0 {
+        return opened(f);
+    }
+    let last = s.last;
+    let m = f.mark;
+    if same_mark(last, m) {
+        return s;
+    }
+    put(s, f)
+}
+
+// The window at place i.
+fn step(s: Scan, i: usize, a: Candle, b: Candle, c: Candle) -> Scan
+    requires { ⌜ Small s i ⌝ }
+    ensures { λ r. ⌜ r ≡ stepOf s i a b c ⌝ }
+{
+    if is_top(a, b, c) {
+        let m = Mark::G;
+        let f = fx_at(i, m, b);
+        return take(s, f);
+    }
+    if is_bottom(a, b, c) {
+        let m = Mark::D;
+        let f = fx_at(i, m, b);
+        return take(s, f);
+    }
+    s
+}
+
+// The candle at a place of the view: the first n bars of the store, of times ts and prices ps, then
+// the first m of the tail, of times us and prices qs.
+pub fn candle_at(
+    ts: &[i64],
+    ps: &[[f64; 6]],
+    us: &[i64],
+    qs: &[[f64; 6]],
+    n: usize,
+    m: usize,
+    i: usize,
+) -> Candle
+    requires { ⌜ (n ≤ length (now ts)) × (n ≤ length (now ps)) × (m ≤ length (now us)) × (m ≤ length (now qs)) × (i < n + m) ⌝ }
+    ensures { λ r. ⌜ r ≡ candleFrom (getD (view n (now (ts .entry)) m (now (us .entry))) i (pos 0)) (getD (view n (now (ps .entry)) m (now (qs .entry))) i []) ⌝ }
+{
+    if i < n {
+        let t = ts[i];
+        let p = ps[i];
+        return Candle {
+            time: t,
+            high: p[2],
+            low: p[3],
+        };
+    }
+    let j = i - n;
+    let t = us[j];
+    let p = qs[j];
+    Candle {
+        time: t,
+        high: p[2],
+        low: p[3],
+    }
+}
+
+// One range strictly holds the other's on both sides.
+fn holds(a: Fx, b: Fx) -> bool
+    ensures { λ r. ⌜ r ≡ holdsOf a b ⌝ }
+{
+    if b.high < a.high {
+        return a.low < b.low;
+    }
+    if a.high < b.high {
+        return b.low < a.low;
+    }
+    false
+}
+
+// All windows of the view from place lo on. Places are counted from there.
+pub fn scan_from(
+    ts: &[i64],
+    ps: &[[f64; 6]],
+    us: &[i64],
+    qs: &[[f64; 6]],
+    n: usize,
+    m: usize,
+    lo: usize,
+) -> Scan
+    requires { ⌜ (n ≤ length (now ts)) × (n ≤ length (now ps)) × (m ≤ length (now us)) × (m ≤ length (now qs)) × (n + m < 4294967296) × (lo ≤ n + m) ⌝ }
+    ensures { λ r. ⌜ r ≡ scanOf (drop lo (candles (view n (now (ts .entry)) m (now (us .entry))) (view n (now (ps .entry)) m (now (qs .entry))))) ⌝ }
+    ensures { λ r. ⌜ Small r (n + m - lo) × (r .found ≡ true → r .end .place + 2 < n + m - lo) ⌝ }
+{
+    let mut s = blank_scan();
+    let total = n + m;
+    if total < lo + 2 {
+        return s;
+    }
+    let mut a = candle_at(ts, ps, us, qs, n, m, lo);
+    let mut b = candle_at(ts, ps, us, qs, n, m, lo + 1);
+    let mut i = 0;
+    while lo + i + 2 < total {
+        let c = candle_at(ts, ps, us, qs, n, m, lo + i + 2);
+        s = step(s, i, a, b, c);
+        a = b;
+        b = c;
+        i += 1;
+    }
+    s
+}
+
+// What check_bi answers where no stroke is made.
+pub fn no_bi() -> FoundBi
+    ensures { λ r. ⌜ r ≡ foundIf false blank ⌝ }
+{
+    let z = no_fx();
+    FoundBi {
+        made: false,
+        start: z,
+        end: z,
+        bars: 0,
+        fractals: 0,
+    }
+}
+
+// What check_bi makes of a scan.
+pub fn found_bi(s: Scan, minimum: usize) -> FoundBi
+    requires { ⌜ (s .start .place ≤ s .end .place) × (s .end .place < 4294967296) ⌝ }
+    ensures { λ r. ⌜ r ≡ foundOf minimum s ⌝ }
+{
+    let start = s.start;
+    let end = s.end;
+    let first = start.place;
+    let last = end.place;
+    let bars = last + 3 - first;
+    if s.found {
+        if minimum <= bars {
+            if holds(start, end) {
+                return no_bi();
+            }
+            return FoundBi {
+                made: true,
+                start: start,
+                end: end,
+                bars: bars,
+                fractals: s.upto,
+            };
+        }
+        return no_bi();
+    }
+    no_bi()
+}

@@ -1,0 +1,17 @@
+pub mod Fractals
+pub mod Strokes
+pub mod ByTime
+pub mod Rising
+pub mod SearchByTime
+pub mod Break
+pub mod Stand
+pub mod Feed
+pub mod Soundness
+pub mod FeedQuestions
+pub mod Calls
+pub mod KeptStrokes
+pub mod NewestOnly
+pub mod Unsound
+pub mod Reached
+pub mod ReachedByTime
+pub mod Traps

@@ -1,0 +1,12 @@
+pub mod FreshLaws
+pub mod SoundScans
+pub mod SoundNames
+pub mod SoundStrokes
+pub mod SoundFits
+pub mod SoundReads
+pub mod SoundEnds
+pub mod SoundFront
+pub mod SoundFacts
+pub mod SoundMeans
+pub mod SoundWhole
+pub mod NewestLaws

@@ -1,0 +1,274 @@
+-- What the scans of question 4 cite: flags put together, each element tested, times that rise, and what they say of question 5. Assumes nothing.
+use Prim.Native.Nat.{ℕ, zero, suc, _+_, _-_, _*_, _/_, _≤_, _<_}
+use borrow.Author.Tests.{le-leb}
+use native.Mathlib.Omega.{arith}
+use mathlib.Core.Path.{_≡_, refl, ap, sym, _∙_, subst}
+use mathlib.Core.Bool.{Bool, true, false, not, _&&_, _||_}
+use mathlib.Core.List.{List, [], _∷_, map}
+use lib.ListN.{length, take, drop, getD, length-drop, length-map, List·getD-map}
+use lib.Seq.{drop-cons, take-length}
+use lib.IntN.{ℤ, pos}
+use lib.Signed.{ltZ, leZ}
+use lib.Dec.{T, not-T, T-not}
+use lib.Ieee.{Float, fin, binary64, lt, eq, div}
+use lib.Ieee.Fits.{and-l, and-r}
+use Rattle.bars.specs.Lists.{every}
+use Rattle.bars.specs.Stores.{rising}
+use Rattle.bars.specs.Questions.{zeroFloat, fromZero, firstTime, lastTime}
+use Rattle.bars.proofs.Asked as questions
+use Rattle.machine.proofs.Times.{lt-trans, lt-le, le-trans, not-lt-le, le-not-lt, lt-not-le, le-lt-trans, lt-le-trans}
+use Rattle.machine.specs.Soundness.{rises}
+use Rattle.sound.specs.SoundStand.{inTime, timesPass, topRow, differ, alternating, middleTimes, isReal, endsHeld}
+
+-- ---- flags
+
+pub and-assoc : (a b c : Bool) → (a && (b && c)) ≡ ((a && b) && c)
+and-assoc true b c = refl
+and-assoc false b c = refl
+
+pub and-true : (a : Bool) → (a && true) ≡ a
+and-true true = refl
+and-true false = refl
+
+pub and-false : (a : Bool) → (a && false) ≡ false
+and-false true = refl
+and-false false = refl
+
+pub yes : (a : Bool) → T a → a ≡ true
+yes true h = refl
+yes false h = absurd h
+
+pub holds : {a : Bool} → a ≡ true → T a
+holds e = subst T (sym e) tt
+
+pub no : (a : Bool) → T (not a) → a ≡ false
+no true h = absurd h
+no false h = refl
+
+pub fails : {a : Bool} → a ≡ false → T (not a)
+fails e = subst (λ (b : Bool). T (not b)) (sym e) tt
+
+pub pair : (a b : Bool) → T a → T b → T (a && b)
+pair true b h k = k
+pair false b h k = h
+
+pub both-true : {a b : Bool} → a ≡ true → b ≡ true → (a && b) ≡ true
+both-true e f = rw (e, f)
+
+-- two flags are equal where each holds if the other does
+pub same : (a b : Bool) → (T a → T b) → (T b → T a) → a ≡ b
+same true true f g = refl
+same true false f g = absurd (f tt)
+same false true f g = absurd (g tt)
+same false false f g = refl
+
+-- ---- each element is tested
+
+module _ {A : Type 0} (p : A → Bool) where
+  -- a turn: x is the test of the element at i, ok' the flag with it
+  pub every-turn : (v : List A) (i : ℕ) (z : A) (ok ok' x r : Bool) → i < length v → x ≡ p (getD v i z) → ok' ≡ (ok && x)
+      → (ok && every p (drop i v)) ≡ r → (ok' && every p (drop (i + 1) v)) ≡ r
+  unfolding every
+  every-turn v i z ok ok' x r h e f g =
+      let c : i + 1 ≡ suc i = omega arith in
+      let d : every p (drop i v) ≡ (p (getD v i z) && every p (drop (i + 1) v)) = rw (c, drop-cons v i z h) in
+      ap (λ (y : Bool). y && every p (drop (i + 1) v)) (f ∙ ap (λ (y : Bool). ok && y) e)
+      ∙ sym (and-assoc ok (p (getD v i z)) (every p (drop (i + 1) v))) ∙ sym (ap (λ (y : Bool). ok && y) d) ∙ g
+
+  every-short : (l : List A) → length l ≤ 0 → every p l ≡ true
+  unfolding every
+  every-short [] h = refl
+  every-short (a ∷ l) h = absurd (omega arith)
+
+  pub every-end : (v : List A) (i : ℕ) (ok r : Bool) → length v ≤ i → (ok && every p (drop i v)) ≡ r → ok ≡ r
+  every-end v i ok r h g =
+      sym (and-true ok) ∙ sym (ap (λ (y : Bool). ok && y) (every-short (drop i v) (omega (arith, length-drop i v)))) ∙ g
+
+  pub every-at : (v : List A) (i : ℕ) (z : A) → T (every p v) → i < length v → T (p (getD v i z))
+  unfolding every
+  every-at [] i z h k = absurd (omega arith)
+  every-at (a ∷ v) zero z h k = and-l (p a) (every p v) h
+  every-at (a ∷ v) (suc i) z h k = every-at v i z (and-r (p a) (every p v) h) (omega arith)
+
+-- ---- times that rise
+
+rising-at : (v : List ℤ) (i : ℕ) → i + 1 < length v → rising (drop i v) ≡ (ltZ (getD v i (pos 0)) (getD v (i + 1) (pos 0)) && rising (drop (i + 1) v))
+unfolding rising
+rising-at v i h =
+    let a : i < length v = omega arith in
+    let b : suc i < length v = omega arith in
+    let c : i + 1 ≡ suc i = omega arith in
+    rw (c, drop-cons v i (pos 0) a, drop-cons v (suc i) (pos 0) b)
+
+pub rise-turn : (v : List ℤ) (i : ℕ) (ok ok' x r : Bool) → i + 1 < length v → x ≡ ltZ (getD v i (pos 0)) (getD v (i + 1) (pos 0)) → ok' ≡ (ok && x)
+    → (ok && rising (drop i v)) ≡ r → (ok' && rising (drop (i + 1) v)) ≡ r
+rise-turn v i ok ok' x r h e f g =
+    ap (λ (y : Bool). y && rising (drop (i + 1) v)) (f ∙ ap (λ (y : Bool). ok && y) e)
+    ∙ sym (and-assoc ok (ltZ (getD v i (pos 0)) (getD v (i + 1) (pos 0))) (rising (drop (i + 1) v)))
+    ∙ sym (ap (λ (y : Bool). ok && y) (rising-at v i h)) ∙ g
+
+rise-short : (l : List ℤ) → length l < 2 → rising l ≡ true
+unfolding rising
+rise-short [] h = refl
+rise-short (a ∷ []) h = refl
+rise-short (a ∷ b ∷ l) h = absurd (omega arith)
+
+every-later : (a b : ℤ) (l : List ℤ) → T (ltZ a b) → T (every (λ u. ltZ b u) l) → T (every (λ u. ltZ a u) l)
+unfolding every
+every-later a b [] h k = tt
+every-later a b (u ∷ l) h k =
+    pair (ltZ a u) (every (λ u. ltZ a u) l) (lt-trans a b u h (and-l (ltZ b u) (every (λ u. ltZ b u) l) k))
+    (every-later a b l h (and-r (ltZ b u) (every (λ u. ltZ b u) l) k))
+
+-- to compare each time with the next one is to compare it with all that follow
+pub rising-rises : (l : List ℤ) → T (rising l) → T (rises l)
+unfolding rising rises every
+rising-rises [] h = tt
+rising-rises (a ∷ []) h = tt
+rising-rises (a ∷ b ∷ l) h =
+    let x = and-l (ltZ a b) (rising (b ∷ l)) h in
+    let k = rising-rises (b ∷ l) (and-r (ltZ a b) (rising (b ∷ l)) h) in
+    pair (every (λ u. ltZ a u) (b ∷ l)) (rises (b ∷ l)) (pair (ltZ a b) (every (λ u. ltZ a u) l) x (every-later a b l x (and-l (every (λ u. ltZ b u) l) (rises l) k))) k
+
+pub rises-rising : (l : List ℤ) → T (rises l) → T (rising l)
+unfolding rising rises every
+rises-rising [] h = tt
+rises-rising (a ∷ []) h = tt
+rises-rising (a ∷ b ∷ l) h =
+    let f = every (λ u. ltZ a u) (b ∷ l) in
+    pair (ltZ a b) (rising (b ∷ l)) (and-l (ltZ a b) (every (λ u. ltZ a u) l) (and-l f (rises (b ∷ l)) h)) (rises-rising (b ∷ l) (and-r f (rises (b ∷ l)) h))
+
+pub rises-is : (l : List ℤ) → rising l ≡ rises l
+rises-is l = same (rising l) (rises l) (rising-rises l) (rises-rising l)
+
+pub rise-few : (l : List ℤ) → length l < 2 → true ≡ rises l
+rise-few l h = sym (rise-short l h) ∙ rises-is l
+
+pub rise-end : (v : List ℤ) (i : ℕ) (ok r : Bool) → length v ≤ i + 1 → (ok && rising (drop i v)) ≡ r → ok ≡ r
+rise-end v i ok r h g = sym (and-true ok) ∙ sym (ap (λ (y : Bool). ok && y) (rise-short (drop i v) (omega (arith, length-drop i v)))) ∙ g
+
+-- ---- neighbours in a column of rows
+
+-- the middle times, read off the rows
+pub middle-turn : (v : List (List ℤ)) (i : ℕ) (ok ok' x r : Bool) → i + 1 < length v
+    → x ≡ ltZ (getD (getD v i []) 1 (pos 0)) (getD (getD v (i + 1) []) 1 (pos 0)) → ok' ≡ (ok && x)
+    → (ok && rising (drop i (middleTimes v))) ≡ r → (ok' && rising (drop (i + 1) (middleTimes v))) ≡ r
+unfolding middleTimes
+middle-turn v i ok ok' x r h e f g =
+    let k : length (map (λ t. getD t 1 (pos 0)) v) ≡ length v = length-map v (λ t. getD t 1 (pos 0)) in
+    rise-turn (map (λ t. getD t 1 (pos 0)) v) i ok ok' x r (omega arith)
+    (e ∙ sym (λ j. ltZ (List·getD-map (λ t. getD t 1 (pos 0)) v i [] j) (List·getD-map (λ t. getD t 1 (pos 0)) v (i + 1) [] j))) f g
+
+pub middle-few : (v : List (List ℤ)) → length v < 2 → true ≡ rises (middleTimes v)
+unfolding middleTimes
+middle-few v h = rise-few (map (λ t. getD t 1 (pos 0)) v) (omega (arith, length-map v (λ t. getD t 1 (pos 0))))
+
+pub middle-end : (v : List (List ℤ)) (i : ℕ) (ok r : Bool) → length v ≤ i + 1 → (ok && rising (drop i (middleTimes v))) ≡ r → ok ≡ r
+unfolding middleTimes
+middle-end v i ok r h g = rise-end (map (λ t. getD t 1 (pos 0)) v) i ok r (omega (arith, length-map v (λ t. getD t 1 (pos 0)))) g
+
+-- marks that alternate
+alternating-at : (v : List (List Float)) (i : ℕ) → i + 1 < length v
+    → alternating (map topRow (drop i v)) ≡ (differ (topRow (getD v i [])) (topRow (getD v (i + 1) [])) && alternating (map topRow (drop (i + 1) v)))
+unfolding alternating
+alternating-at v i h =
+    let a : i < length v = omega arith in
+    let b : suc i < length v = omega arith in
+    let c : i + 1 ≡ suc i = omega arith in
+    rw (c, drop-cons v i [] a, drop-cons v (suc i) [] b)
+
+pub alternating-turn : (v : List (List Float)) (i : ℕ) (ok ok' x r : Bool) → i + 1 < length v
+    → x ≡ differ (topRow (getD v i [])) (topRow (getD v (i + 1) [])) → ok' ≡ (ok && x)
+    → (ok && alternating (map topRow (drop i v))) ≡ r → (ok' && alternating (map topRow (drop (i + 1) v))) ≡ r
+alternating-turn v i ok ok' x r h e f g =
+    ap (λ (y : Bool). y && alternating (map topRow (drop (i + 1) v))) (f ∙ ap (λ (y : Bool). ok && y) e)
+    ∙ sym (and-assoc ok (differ (topRow (getD v i [])) (topRow (getD v (i + 1) []))) (alternating (map topRow (drop (i + 1) v))))
+    ∙ sym (ap (λ (y : Bool). ok && y) (alternating-at v i h)) ∙ g
+
+alternating-short : (l : List (List Float)) → length l < 2 → alternating (map topRow l) ≡ true
+unfolding alternating
+alternating-short [] h = refl
+alternating-short (a ∷ []) h = refl
+alternating-short (a ∷ b ∷ l) h = absurd (omega arith)
+
+pub alternating-few : (v : List (List Float)) → length v < 2 → true ≡ alternating (map topRow v)
+alternating-few v h = sym (alternating-short v h)
+
+pub alternating-end : (v : List (List Float)) (i : ℕ) (ok r : Bool) → length v ≤ i + 1 → (ok && alternating (map topRow (drop i v))) ≡ r → ok ≡ r
+alternating-end v i ok r h g =
+    sym (and-true ok) ∙ sym (ap (λ (y : Bool). ok && y) (alternating-short (drop i v) (omega (arith, length-drop i v)))) ∙ g
+
+-- both ends
+pub held-none : (v : List (List Float)) → length v ≡ 0 → false ≡ endsHeld v
+unfolding endsHeld
+held-none v h = rw h
+
+pub held-one : (v : List (List Float)) (x : Bool) → length v ≡ 1 → x ≡ isReal (getD v 0 []) → x ≡ endsHeld v
+unfolding endsHeld
+held-one v x h e = rw h (e ∙ twice (isReal (getD v 0 [])))
+  where
+    twice : (b : Bool) → b ≡ (b && b)
+    twice true = refl
+    twice false = refl
+
+pub held-more : (v : List (List Float)) (x y z : Bool) → 1 ≤ length v → x ≡ isReal (getD v 0 []) → y ≡ isReal (getD v (2 * (length v / 2) - 1) []) → z ≡ (x && y) → z ≡ endsHeld v
+unfolding endsHeld
+held-more v x y z h e f g = rw (le-leb 1 (length v) h) (g ∙ (λ j. e j && f j))
+
+-- ---- question 5 of times that rise
+
+in-time : (t : ℤ) → T (leZ firstTime t) → T (leZ t lastTime) → T (inTime t)
+unfolding inTime
+in-time t f k = pair (leZ firstTime t) (leZ t lastTime) f k
+
+not-early : (t : ℤ) → T (inTime t) → T (leZ firstTime t)
+unfolding inTime
+not-early t h = and-l (leZ firstTime t) (leZ t lastTime) h
+
+not-late : (t : ℤ) → T (inTime t) → T (leZ t lastTime)
+unfolding inTime
+not-late t h = and-r (leZ firstTime t) (leZ t lastTime) h
+
+up-to : (a : ℤ) (l : List ℤ) → T (leZ firstTime a) → T (every (λ u. ltZ a u) l) → T (rises l) → T (leZ (getD (a ∷ l) (length l) (pos 0)) lastTime)
+    → T (every inTime (a ∷ l))
+unfolding every rises
+up-to a [] f h r k = pair (inTime a) true (in-time a f k) tt
+up-to a (b ∷ l) f h r k =
+    let x = and-l (ltZ a b) (every (λ u. ltZ a u) l) h in
+    let fb = le-trans firstTime a b f (lt-le a b x) in
+    let g = up-to b l fb (and-l (every (λ u. ltZ b u) l) (rises l) r) (and-r (every (λ u. ltZ b u) l) (rises l) r) k in
+    let hb = not-late b (and-l (inTime b) (every inTime l) g) in
+    pair (inTime a) (every inTime (b ∷ l)) (in-time a f (le-trans a b lastTime (lt-le a b x) hb)) g
+
+pub times-pass-none : (l : List ℤ) → length l ≡ 0 → true ≡ timesPass l
+unfolding timesPass rises every
+times-pass-none [] h = refl
+times-pass-none (a ∷ l) h = absurd (omega arith)
+
+pub times-outside : (l : List ℤ) (i : ℕ) → i < length l → inTime (getD l i (pos 0)) ≡ false → false ≡ timesPass l
+unfolding timesPass
+times-outside l i h e =
+    same false (timesPass l) (λ w. absurd w)
+    (λ k. T-not (inTime (getD l i (pos 0))) (fails e) (every-at inTime l i (pos 0) (and-r (rises l) (every inTime l) k) h))
+
+pub times-inside : (l : List ℤ) → 0 < length l → inTime (getD l 0 (pos 0)) ≡ true → inTime (getD l (length l - 1) (pos 0)) ≡ true → rises l ≡ timesPass l
+unfolding timesPass rises
+times-inside [] h e f = absurd (omega arith)
+times-inside (a ∷ l) h e f =
+    let q : length (a ∷ l) - 1 ≡ length l = omega arith in
+    let g = rw q at f in
+    same (rises (a ∷ l)) (rises (a ∷ l) && every inTime (a ∷ l))
+    (λ r. pair (rises (a ∷ l)) (every inTime (a ∷ l)) r
+    (up-to a l (not-early a (holds e)) (and-l (every (λ u. ltZ a u) l) (rises l) r) (and-r (every (λ u. ltZ a u) l) (rises l) r)
+    (not-late (getD (a ∷ l) (length l) (pos 0)) (holds g))))
+    (λ r. and-l (rises (a ∷ l)) (every inTime (a ∷ l)) r)
+
+-- ---- vol and amount
+
+pub from-zero-flags : (x : Float) → (lt zeroFloat x || (eq zeroFloat x && lt zeroFloat (div binary64 (fin false 1 (pos 0)) x))) ≡ fromZero x
+from-zero-flags x = by (lt zeroFloat x) (eq zeroFloat x) refl refl
+  where
+    by : (a b : Bool) → lt zeroFloat x ≡ a → eq zeroFloat x ≡ b → (lt zeroFloat x || (eq zeroFloat x && lt zeroFloat (div binary64 (fin false 1 (pos 0)) x))) ≡ fromZero x
+    by true b e f = rw e (questions.above-zero x e)
+    by false true e f = rw (e, f) (questions.at-zero x e f)
+    by false false e f = rw (e, f) (questions.not-from-zero x e f)

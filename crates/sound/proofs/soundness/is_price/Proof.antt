@@ -1,0 +1,15 @@
+use lib.Ieee.{ofBits}
+use Rattle.bars.specs.Questions.{isPrice, leastPrice, mostPrice}
+use borrow.Author.Needs.{needs}
+use Rattle.sound.proofs.soundness.is_price.Statement.{statement}
+use Rattle.sound.proofs.soundness.is_price.Tie as tie
+
+both-requires : tie.Need-both-requires
+both-requires c κs = search needs
+
+returns : tie.Need-returns
+unfolding isPrice leastPrice mostPrice ofBits
+returns c = c .both .ensures
+
+pub is-price-spec : {M : Type 1} → statement M
+is-price-spec = tie.close (tie.spec both-requires returns)

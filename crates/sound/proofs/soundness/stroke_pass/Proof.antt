@@ -1,0 +1,93 @@
+use Rattle.sound.proofs.SoundStrokes.{part-lengths}
+use Rattle.sound.specs.SoundStand.{strokeColumns}
+use native.Mathlib.Omega.{arith}
+use Prim.Native.Nat.{_-_}
+use lib.ListN.{length}
+use mathlib.Core.Path.{_≡_, _∙_, sym, refl}
+use borrow.Author.Tests.{not-true, not-false, le-leb, lt-leb}
+use borrow.Author.Needs.{needs}
+use Rattle.sound.proofs.soundness.stroke_pass.Statement.{statement}
+use Rattle.sound.proofs.soundness.stroke_pass.Tie as tie
+
+returns : tie.Need-returns
+unfolding strokeColumns
+returns c = rw (lt-leb 4 (length (c .before .before .args .ts .now)) (c .if1 .taken))
+
+times-pass-requires : tie.Need-times-pass-requires
+times-pass-requires c κs = search needs
+
+returns-2 : tie.Need-returns-2
+unfolding strokeColumns
+returns-2 c = rw (le-leb 4 (length (c .before .before .before .before .args .ts .now)) (c .before .before .if1 .left), sym (c .before .times-pass .ensures) ∙ not-true _ (c .if2 .taken))
+
+merged-rows-pass-requires : tie.Need-merged-rows-pass-requires
+merged-rows-pass-requires c κs = search needs
+
+returns-3 : tie.Need-returns-3
+unfolding strokeColumns
+returns-3 c = rw (le-leb 4 (length (c .before .before .before .before .before .before .args .ts .now)) (c .before .before .before .before .if1 .left), sym (c .before .before .before .times-pass .ensures) ∙ not-false _ (c .before .before .if2 .left), sym (c .before .merged-rows-pass .ensures) ∙ not-true _ (c .if3 .taken))
+
+counts-pass-requires : tie.Need-counts-pass-requires
+counts-pass-requires c κs = search needs
+
+returns-4 : tie.Need-returns-4
+unfolding strokeColumns
+returns-4 c = rw (le-leb 4 (length (c .before .before .before .before .before .before .before .before .args .ts .now)) (c .before .before .before .before .before .before .if1 .left), sym (c .before .before .before .before .before .times-pass .ensures) ∙ not-false _ (c .before .before .before .before .if2 .left), sym (c .before .before .before .merged-rows-pass .ensures) ∙ not-false _ (c .before .before .if3 .left), sym (c .before .counts-pass .ensures) ∙ not-true _ (c .if4 .taken))
+
+fractals-pass-requires : tie.Need-fractals-pass-requires
+fractals-pass-requires c κs = search needs
+
+returns-5 : tie.Need-returns-5
+unfolding strokeColumns
+returns-5 c = rw (le-leb 4 (length (c .before .before .before .before .before .before .before .before .before .before .args .ts .now)) (c .before .before .before .before .before .before .before .before .if1 .left), sym (c .before .before .before .before .before .before .before .times-pass .ensures) ∙ not-false _ (c .before .before .before .before .before .before .if2 .left), sym (c .before .before .before .before .before .merged-rows-pass .ensures) ∙ not-false _ (c .before .before .before .before .if3 .left), sym (c .before .before .before .counts-pass .ensures) ∙ not-false _ (c .before .before .if4 .left), sym (c .before .fractals-pass .ensures) ∙ not-true _ (c .if5 .taken))
+
+sub-e : tie.Need-sub-e
+sub-e c = search needs
+
+sub-rows-named : tie.Need-sub-rows-named
+sub-rows-named c = search needs
+
+part-rows-named-start : tie.Need-part-rows-named-start
+part-rows-named-start c = search needs
+
+part-rows-named-end : tie.Need-part-rows-named-end
+part-rows-named-end c = search needs
+
+sub-rows-named-2 : tie.Need-sub-rows-named-2
+sub-rows-named-2 c = search needs
+
+part-rows-named-start-2 : tie.Need-part-rows-named-start-2
+part-rows-named-start-2 c = search needs
+
+part-rows-named-end-2 : tie.Need-part-rows-named-end-2
+part-rows-named-end-2 c = search needs
+
+rows-named-requires : tie.Need-rows-named-requires
+rows-named-requires c κs = let b = c .before .before .before .before .before .before .before .before .before .before .before .before in ((part-lengths (b .args .cs .now) (b .args .es .now) (length (b .args .ts .now) - 1 - 1) 1 (length (b .args .ts .now)) (search needs) (search needs), search needs), b .pre .1)
+
+returns-6 : tie.Need-returns-6
+unfolding strokeColumns
+returns-6 c = let q : length (c .before .before .before .before .before .before .before .before .before .before .before .before .before .args .ts .now) - 1 - 1 ≡ length (c .before .before .before .before .before .before .before .before .before .before .before .before .before .args .ts .now) - 2 = omega arith in rw (le-leb 4 (length (c .before .before .before .before .before .before .before .before .before .before .before .before .before .args .ts .now)) (c .before .before .before .before .before .before .before .before .before .before .before .if1 .left), sym (c .before .before .before .before .before .before .before .before .before .before .times-pass .ensures) ∙ not-false _ (c .before .before .before .before .before .before .before .before .before .if2 .left), sym (c .before .before .before .before .before .before .before .before .merged-rows-pass .ensures) ∙ not-false _ (c .before .before .before .before .before .before .before .if3 .left), sym (c .before .before .before .before .before .before .counts-pass .ensures) ∙ not-false _ (c .before .before .before .before .before .if4 .left), sym (c .before .before .before .before .fractals-pass .ensures) ∙ not-false _ (c .before .before .before .if5 .left)) (rw q at (c .rows-named .ensures))
+
+pub stroke-pass-spec : {M : Type 1} → statement M
+stroke-pass-spec =
+    tie.close
+    (tie.spec
+    returns
+    times-pass-requires
+    returns-2
+    merged-rows-pass-requires
+    returns-3
+    counts-pass-requires
+    returns-4
+    fractals-pass-requires
+    returns-5
+    sub-e
+    sub-rows-named
+    part-rows-named-start
+    part-rows-named-end
+    sub-rows-named-2
+    part-rows-named-start-2
+    part-rows-named-end-2
+    rows-named-requires
+    returns-6)

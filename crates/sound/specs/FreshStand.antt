@@ -1,0 +1,58 @@
+-- Document 01's fresh analyzer: questions 1 to 3, and the stand that it begins with. Definitions only.
+use Prim.Native.Nat.{ℕ, zero, suc}
+use mathlib.Core.Bool.{Bool, true, false, _&&_, cond}
+use mathlib.Core.List.{List, []}
+use lib.ListN.{replicate}
+use lib.Dec.{leb, eqb}
+use Rattle.strokes.specs.declared.Rooms.{Rooms}
+use Rattle.strokes.specs.declared.Stand.{Stand}
+use Rattle.sound.specs.declared.fresh_stand.FreshAnswer.{FreshAnswer}
+use Rattle.machine.specs.FeedQuestions.{orElse}
+use Rattle.machine.specs.Soundness.{isRoom}
+
+-- is the minimum length, or the most strokes, 0 to 64?
+unfoldable pub isAsked : ℕ → Bool
+isAsked n = leb n 64
+
+-- 0 means the default: 6 for the minimum length, 50 for the most strokes
+unfoldable pub orDefault : ℕ → ℕ → ℕ
+orDefault n d = cond (eqb n 0) d n
+
+-- each store takes 16 to 65,536 bars
+unfoldable pub roomsFit : Rooms → Bool
+unfolding isRoom
+roomsFit r = isRoom (r .raw) && (isRoom (r .unfinished) && isRoom (r .strokes))
+
+-- the first of questions 1 to 3 that is answered "no", or 0
+unfoldable pub freshFailed : ℕ → ℕ → Rooms → ℕ
+unfolding orElse isAsked roomsFit
+freshFailed minimum most rooms = orElse (isAsked minimum) 1 (orElse (isAsked most) 2 (orElse (roomsFit rooms) 3 0))
+
+-- a stand that holds nothing
+unfoldable pub emptyStand : ℕ → ℕ → Rooms → Stand
+emptyStand minimum most rooms =
+    record {
+      minimum = minimum;
+      most = most;
+      rooms = rooms;
+      raw = 0;
+      unfinished = 0;
+      strokes = 0;
+      bars = replicate 65 0;
+      fractals = replicate 65 0;
+    }
+
+-- what a refusal hands back beside its number: settings of 0, which no later call takes for sound
+unfoldable pub noStand : Stand
+unfolding emptyStand
+noStand = emptyStand 0 0 (record { raw = 0; unfinished = 0; strokes = 0 })
+
+-- by the first question that failed
+unfoldable pub freshBy : ℕ → ℕ → ℕ → Rooms → FreshAnswer
+unfolding emptyStand noStand orDefault
+freshBy zero minimum most rooms = record { refused = 0; stand = emptyStand (orDefault minimum 6) (orDefault most 50) rooms }
+freshBy (suc n) minimum most rooms = record { refused = suc n; stand = noStand }
+
+unfoldable pub freshOf : ℕ → ℕ → Rooms → FreshAnswer
+unfolding freshBy freshFailed
+freshOf minimum most rooms = freshBy (freshFailed minimum most rooms) minimum most rooms

@@ -1,0 +1,4 @@
+pub mod FreshStand
+pub mod SoundStand
+pub mod Question4
+pub mod NewestBar

@@ -1,0 +1,16 @@
+-- Question 4 of document 01, asked of a stand and its lent stores: the stores have their recorded lengths, the counts fit them, and the state that is read off
+-- them is sound. Definitions only.
+use mathlib.Core.Bool.{Bool, _&&_}
+use lib.Dec.{T}
+use Rattle.machine.specs.Soundness.{sound}
+use Rattle.strokes.specs.declared.Stand.{Stand}
+use Rattle.strokes.specs.Stored.{Stores, stateOf, settingsOf, sized}
+
+unfoldable pub question4 : Stand → Stores → Bool
+unfolding sized sound settingsOf stateOf
+question4 s m = sized s m && sound (settingsOf s) (stateOf s m)
+
+-- what every step may count on once question 4 has passed
+pub record IsSound (s : Stand) (m : Stores) : Type 0 where
+  pub sizes : T (sized s m)
+  pub state : T (sound (settingsOf s) (stateOf s m))

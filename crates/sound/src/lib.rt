@@ -1,0 +1,10 @@
+// Questions 1 to 4 of document 01: a fresh analyzer, and whether a stand is sound.
+mod fresh_stand;
+mod newest;
+mod soundness;
+
+pub use fresh_stand::FreshAnswer;
+pub use fresh_stand::fresh;
+pub use newest::newest_is_last;
+pub use soundness::is_sound;
+pub use soundness::stores_sized;

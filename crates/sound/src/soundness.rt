@@ -1,0 +1,707 @@
+// Question 4 of document 01: is the stand sound? A scan puts its tests together as flags, without a
+// branch, and looks only at the columns that its clause speaks of.
+ghost use mathlib.Core.Path.{_≡_};
+ghost use mathlib.Core.Bool.{_&&_, _||_};
+ghost use mathlib.Core.List.{[], map};
+ghost use Prim.Native.Nat.{_+_, _-_, _≤_, _<_, min};
+ghost use lib.IntN.{pos};
+ghost use lib.ListN.{length, take, drop, getD};
+ghost use lib.Signed.{ltZ};
+ghost use lib.Dec.{T, leb};
+ghost use lib.Ieee.{nan};
+ghost use Rattle.bars.specs.Lists.{every, last};
+ghost use Rattle.bars.specs.Questions.{isPrice, fromZero, isVolume};
+ghost use Rattle.bars.specs.Stores.{rawStore, mergedStore, rising, placeOf};
+ghost use Rattle.machine.specs.Soundness.{rises, isSetting, endsOn};
+ghost use Rattle.strokes.specs.Stored.{storesSized, fractalStore, rawSized, mergedSized, fractalSized, total};
+ghost use Rattle.sound.specs.SoundStand.{inTime, timesPass, rawRow, mergedRow, smallCount, differ, topRow, alternating, isReal, endsHeld, middleTimes, fractalColumns, atPlace, placeAfter, isTime, namedRows, newestRow, numbersPass, rawColumns, unfinishedColumns, strokeColumns, strokesColumns, frontColumns, storesOf};
+ghost use Rattle.sound.specs.Question4.{question4};
+use super::fresh_stand::rooms_fit;
+use strokes::Stand;
+
+pub fn both(a: bool, b: bool) -> bool
+    ensures { λ r. ⌜ r ≡ (a && b) ⌝ }
+{
+    a & b
+}
+
+// ---- times
+
+fn is_earlier(ts: &[i64], i: usize) -> bool
+    requires { ⌜ i + 1 < length (now ts) ⌝ }
+    ensures { λ r. ⌜ r ≡ ltZ (getD (now (ts .entry)) i (pos 0)) (getD (now (ts .entry)) (i + 1) (pos 0)) ⌝ }
+{
+    ts[i] < ts[i + 1]
+}
+
+// Each time is compared with the next one only: the order of times is transitive.
+pub fn times_rise(ts: &[i64]) -> bool
+    ensures { λ r. ⌜ r ≡ rises (now (ts .entry)) ⌝ }
+{
+    let n = ts.len();
+    let mut ok = true;
+    let mut i: usize = 0;
+    if n < 2 {
+        return true;
+    }
+    let m = n - 1;
+    while i < m {
+        ok = both(ok, is_earlier(ts, i));
+        i += 1;
+    }
+    ok
+}
+
+// Question 5 of the time at a place.
+fn is_in_time(ts: &[i64], i: usize) -> bool
+    requires { ⌜ i < length (now ts) ⌝ }
+    ensures { λ r. ⌜ r ≡ inTime (getD (now (ts .entry)) i (pos 0)) ⌝ }
+{
+    both(-1099511627776 <= ts[i], ts[i] <= 1099511627776)
+}
+
+// Times that rise pass question 5 if the first and the last do.
+pub fn times_pass(ts: &[i64]) -> bool
+    ensures { λ r. ⌜ r ≡ timesPass (now (ts .entry)) ⌝ }
+{
+    let n = ts.len();
+    if n == 0 {
+        return true;
+    }
+    if !is_in_time(ts, 0) {
+        return false;
+    }
+    let e = n - 1;
+    if !is_in_time(ts, e) {
+        return false;
+    }
+    times_rise(ts)
+}
+
+// ---- rows of prices
+
+fn either(a: bool, b: bool) -> bool
+    ensures { λ r. ⌜ r ≡ (a || b) ⌝ }
+{
+    a | b
+}
+
+fn is_price(x: f64) -> bool
+    ensures { λ r. ⌜ r ≡ isPrice x ⌝ }
+{
+    both(0.00000095367431640625 <= x, x <= 1073741824.0)
+}
+
+// Zero or more, and no minus zero, whose reciprocal is the negative infinity.
+fn from_zero(x: f64) -> bool
+    ensures { λ r. ⌜ r ≡ fromZero x ⌝ }
+{
+    either(0.0 < x, both(0.0 == x, 0.0 < 1.0 / x))
+}
+
+fn is_volume(x: f64) -> bool
+    ensures { λ r. ⌜ r ≡ isVolume x ⌝ }
+{
+    both(from_zero(x), x <= 1125899906842624.0)
+}
+
+fn prices_pass(p: [f64; 6]) -> bool
+    ensures { λ r. ⌜ r ≡ ((isPrice (getD p 0 nan) && isPrice (getD p 1 nan)) && (isPrice (getD p 2 nan) && isPrice (getD p 3 nan))) ⌝ }
+{
+    both(
+        both(is_price(p[0]), is_price(p[1])),
+        both(is_price(p[2]), is_price(p[3])),
+    )
+}
+
+fn raw_row(p: [f64; 6]) -> bool
+    ensures { λ r. ⌜ r ≡ rawRow p ⌝ }
+{
+    both(
+        prices_pass(p),
+        both(both(is_volume(p[4]), is_volume(p[5])), p[3] <= p[2]),
+    )
+}
+
+fn merged_row(p: [f64; 6]) -> bool
+    ensures { λ r. ⌜ r ≡ mergedRow p ⌝ }
+{
+    both(
+        prices_pass(p),
+        both(p[3] <= p[2], both(from_zero(p[4]), from_zero(p[5]))),
+    )
+}
+
+pub fn raw_rows_pass(ps: &[[f64; 6]]) -> bool
+    ensures { λ r. ⌜ r ≡ every rawRow (now (ps .entry)) ⌝ }
+{
+    let mut ok = true;
+    let mut i: usize = 0;
+    while i < ps.len() {
+        let p = ps[i];
+        ok = both(ok, raw_row(p));
+        i += 1;
+    }
+    ok
+}
+
+pub fn merged_rows_pass(ps: &[[f64; 6]]) -> bool
+    ensures { λ r. ⌜ r ≡ every mergedRow (now (ps .entry)) ⌝ }
+{
+    let mut ok = true;
+    let mut i: usize = 0;
+    while i < ps.len() {
+        let p = ps[i];
+        ok = both(ok, merged_row(p));
+        i += 1;
+    }
+    ok
+}
+
+// No merged bar has more than 101 elements.
+pub fn counts_pass(cs: &[usize]) -> bool
+    ensures { λ r. ⌜ r ≡ every smallCount (now (cs .entry)) ⌝ }
+{
+    let mut ok = true;
+    let mut i: usize = 0;
+    while i < cs.len() {
+        ok = both(ok, cs[i] <= 101);
+        i += 1;
+    }
+    ok
+}
+
+// ---- the fractals of a stroke
+
+// A fractal's row shows a top: the highs of its bars stand at 2, 8 and 14, the lows at 3, 9 and 15.
+fn is_top_row(p: [f64; 18]) -> bool
+    ensures { λ r. ⌜ r ≡ topRow p ⌝ }
+{
+    both(
+        both(p[2] < p[8], p[14] < p[8]),
+        both(p[3] < p[9], p[15] < p[9]),
+    )
+}
+
+fn is_earlier_middle(fs: &[[i64; 6]], i: usize) -> bool
+    requires { ⌜ i + 1 < length (now fs) ⌝ }
+    ensures { λ r. ⌜ r ≡ ltZ (getD (getD (now (fs .entry)) i []) 1 (pos 0)) (getD (getD (now (fs .entry)) (i + 1) []) 1 (pos 0)) ⌝ }
+{
+    fs[i][1] < fs[i + 1][1]
+}
+
+// The times of the middle bars rise.
+fn middles_rise(fs: &[[i64; 6]]) -> bool
+    ensures { λ r. ⌜ r ≡ rises (middleTimes (now (fs .entry))) ⌝ }
+{
+    let n = fs.len();
+    let mut ok = true;
+    let mut i: usize = 0;
+    if n < 2 {
+        return true;
+    }
+    let m = n - 1;
+    while i < m {
+        ok = both(ok, is_earlier_middle(fs, i));
+        i += 1;
+    }
+    ok
+}
+
+fn differs(a: bool, b: bool) -> bool
+    ensures { λ r. ⌜ r ≡ differ a b ⌝ }
+{
+    if a {
+        return !b;
+    }
+    b
+}
+
+fn marks_differ(fp: &[[f64; 18]], i: usize) -> bool
+    requires { ⌜ i + 1 < length (now fp) ⌝ }
+    ensures { λ r. ⌜ r ≡ differ (topRow (getD (now (fp .entry)) i [])) (topRow (getD (now (fp .entry)) (i + 1) [])) ⌝ }
+{
+    let p = fp[i];
+    let q = fp[i + 1];
+    differs(is_top_row(p), is_top_row(q))
+}
+
+// Tops and bottoms alternate.
+fn marks_alternate(fp: &[[f64; 18]]) -> bool
+    ensures { λ r. ⌜ r ≡ alternating (map topRow (now (fp .entry))) ⌝ }
+{
+    let n = fp.len();
+    let mut ok = true;
+    let mut i: usize = 0;
+    if n < 2 {
+        return true;
+    }
+    let m = n - 1;
+    while i < m {
+        ok = both(ok, marks_differ(fp, i));
+        i += 1;
+    }
+    ok
+}
+
+// High and low of the middle bar are no NaN.
+fn is_real(p: [f64; 18]) -> bool
+    ensures { λ r. ⌜ r ≡ isReal p ⌝ }
+{
+    both(p[8] == p[8], p[9] == p[9])
+}
+
+// A stroke starts on its first fractal and ends on the last one, or on the last but one where they
+// are odd in number.
+fn ends_held(fp: &[[f64; 18]]) -> bool
+    ensures { λ r. ⌜ r ≡ endsHeld (now (fp .entry)) ⌝ }
+{
+    let n = fp.len();
+    if n == 0 {
+        return false;
+    }
+    let p = fp[0];
+    if n == 1 {
+        return is_real(p);
+    }
+    let e = 2 * (n / 2) - 1;
+    let q = fp[e];
+    both(is_real(p), is_real(q))
+}
+
+fn fractals_pass(fs: &[[i64; 6]], fp: &[[f64; 18]]) -> bool
+    ensures { λ r. ⌜ r ≡ fractalColumns (now (fs .entry)) (now (fp .entry)) ⌝ }
+{
+    both(middles_rise(fs), both(marks_alternate(fp), ends_held(fp)))
+}
+
+// ---- elements name raw bars
+
+// Whether the raw time at place p is element j of a row.
+fn is_at(ts: &[i64], p: usize, row: &[i64], j: usize) -> bool
+    requires { ⌜ j < length (now row) ⌝ }
+    ensures { λ r. ⌜ r ≡ atPlace (now (ts .entry)) p (getD (now (row .entry)) j (pos 0)) ⌝ }
+{
+    if p < ts.len() {
+        return both(ts[p] <= row[j], row[j] <= ts[p]);
+    }
+    false
+}
+
+// The place of element j of a row among the raw times, which rise. It mostly stands at `from`, the
+// place after that of the element before it.
+fn seek(ts: &[i64], row: &[i64], j: usize, from: usize) -> usize
+    requires { ⌜ j < length (now row) ⌝ ∗ ⌜ T (rising (now ts)) ⌝ }
+    ensures { λ r. ⌜ r ≡ placeOf (getD (now (row .entry)) j (pos 0)) (now (ts .entry)) ⌝ }
+{
+    if is_at(ts, from, row, j) {
+        return from;
+    }
+    let n = ts.len();
+    let t = row[j];
+    bars::find_time(ts, n, t)
+}
+
+fn at_most(n: usize, m: usize) -> usize
+    ensures { λ r. ⌜ r ≡ min n m ⌝ }
+{
+    if n < m {
+        return n;
+    }
+    m
+}
+
+// Whether a row's elements are raw times, and the place after that of the last one.
+struct Sought {
+    named: bool,
+    next: usize,
+}
+
+// The first `count` elements of a row.
+fn row_named(ts: &[i64], row: &[i64], count: usize, from: usize) -> Sought
+    requires { ⌜ length (now ts) ≤ 65536 ⌝ ∗ ⌜ T (rising (now ts)) ⌝ }
+    ensures { λ r. ⌜ (r .named ≡ every (isTime (now (ts .entry))) (take count (now (row .entry)))) × (r .next ≡ placeAfter (now (ts .entry)) from (take count (now (row .entry)))) ⌝ }
+{
+    let n = at_most(count, row.len());
+    let mut ok = true;
+    let mut next = from;
+    let mut j: usize = 0;
+    while j < n {
+        let p = seek(ts, row, j, next);
+        ok = both(ok, is_at(ts, p, row, j));
+        next = p + 1;
+        j += 1;
+    }
+    Sought { named: ok, next }
+}
+
+// The elements of all rows.
+fn rows_named(ts: &[i64], cs: &[usize], es: &[[i64; 101]]) -> bool
+    requires { ⌜ (length (now cs) ≡ length (now es)) × (length (now ts) ≤ 65536) ⌝ ∗ ⌜ T (rising (now ts)) ⌝ }
+    ensures { λ r. ⌜ r ≡ namedRows (now (ts .entry)) (now (cs .entry)) (now (es .entry)) ⌝ }
+{
+    let mut ok = true;
+    let mut next: usize = 0;
+    let mut i: usize = 0;
+    while i < cs.len() {
+        let s = row_named(ts, &es[i], cs[i], next);
+        ok = both(ok, s.named);
+        next = s.next;
+        i += 1;
+    }
+    ok
+}
+
+// The raw time at place p is the last of the first `count` elements of a row.
+fn is_last(ts: &[i64], p: usize, row: &[i64], count: usize) -> bool
+    requires { ⌜ p < length (now ts) ⌝ }
+    ensures { λ r. ⌜ r ≡ endsOn (getD (now (ts .entry)) p (pos 0)) (last (take count (now (row .entry)))) ⌝ }
+{
+    let n = at_most(count, row.len());
+    if n == 0 {
+        return false;
+    }
+    let j = n - 1;
+    is_at(ts, p, row, j)
+}
+
+// The newest raw time, if any, is the last element of the last row.
+pub fn newest_named(ts: &[i64], cs: &[usize], es: &[[i64; 101]]) -> bool
+    requires { ⌜ length (now cs) ≡ length (now es) ⌝ }
+    ensures { λ r. ⌜ r ≡ newestRow (now (ts .entry)) (now (cs .entry)) (now (es .entry)) ⌝ }
+{
+    let n = ts.len();
+    if n == 0 {
+        return true;
+    }
+    let m = cs.len();
+    if m == 0 {
+        return false;
+    }
+    let i = m - 1;
+    let p = n - 1;
+    is_last(ts, p, &es[i], cs[i])
+}
+
+// ---- numbers
+
+pub fn is_setting(n: usize) -> bool
+    ensures { λ r. ⌜ r ≡ isSetting n ⌝ }
+{
+    both(1 <= n, n <= 64)
+}
+
+// The first n numbers together are at most `room`: what is left of it is counted down, since a sum
+// could be too large for a usize.
+fn total_fits(bars: [usize; 65], n: usize, room: usize) -> bool
+    requires { ⌜ n ≤ 65 ⌝ }
+    ensures { λ r. ⌜ (r ≡ leb (total (take n bars)) room) × (length bars ≡ 65) ⌝ }
+{
+    let mut left = room;
+    let mut i: usize = 0;
+    while i < n {
+        if left < bars[i] {
+            return false;
+        }
+        left -= bars[i];
+        i += 1;
+    }
+    true
+}
+
+fn raw_sized(n: usize, ts: &[i64], is: &[i32], ps: &[[f64; 6]]) -> bool
+    ensures { λ r. ⌜ r ≡ rawSized n (rawStore (now (ts .entry)) (now (is .entry)) (now (ps .entry))) ⌝ }
+{
+    both(ts.len() == n, both(is.len() == n, ps.len() == n))
+}
+
+fn merged_sized(
+    n: usize,
+    ts: &[i64],
+    is: &[i32],
+    ps: &[[f64; 6]],
+    cs: &[usize],
+    es: &[[i64; 101]],
+) -> bool
+    ensures { λ r. ⌜ r ≡ mergedSized n (mergedStore (now (ts .entry)) (now (is .entry)) (now (ps .entry)) (now (cs .entry)) (now (es .entry))) ⌝ }
+{
+    both(raw_sized(n, ts, is, ps), both(cs.len() == n, es.len() == n))
+}
+
+fn fractal_sized(n: usize, fs: &[[i64; 6]], fp: &[[f64; 18]]) -> bool
+    ensures { λ r. ⌜ r ≡ fractalSized n (fractalStore (now (fs .entry)) (now (fp .entry))) ⌝ }
+{
+    both(fs.len() == n, fp.len() == n)
+}
+
+// ---- the lists
+
+fn raw_columns_pass(ts: &[i64], ps: &[[f64; 6]]) -> bool
+    ensures { λ r. ⌜ r ≡ rawColumns (now (ts .entry)) (now (ps .entry)) ⌝ }
+{
+    if !times_pass(ts) {
+        return false;
+    }
+    raw_rows_pass(ps)
+}
+
+// The unfinished bars, where the raw times are rt.
+fn unfinished_pass(rt: &[i64], ts: &[i64], ps: &[[f64; 6]], cs: &[usize], es: &[[i64; 101]]) -> bool
+    requires { ⌜ (length (now cs) ≡ length (now es)) × (length (now rt) ≤ 65536) ⌝ ∗ ⌜ T (rising (now rt)) ⌝ }
+    ensures { λ r. ⌜ r ≡ unfinishedColumns (now (rt .entry)) (now (ts .entry)) (now (ps .entry)) (now (cs .entry)) (now (es .entry)) ⌝ }
+{
+    if !times_pass(ts) {
+        return false;
+    }
+    if !merged_rows_pass(ps) {
+        return false;
+    }
+    if !counts_pass(cs) {
+        return false;
+    }
+    if !newest_named(rt, cs, es) {
+        return false;
+    }
+    if cs.len() <= 1 {
+        return rows_named(rt, cs, es);
+    }
+    rows_named(rt, &cs[1..], &es[1..])
+}
+
+// One stroke: its bars and its fractals.
+fn stroke_pass(
+    rt: &[i64],
+    ts: &[i64],
+    ps: &[[f64; 6]],
+    cs: &[usize],
+    es: &[[i64; 101]],
+    fs: &[[i64; 6]],
+    fp: &[[f64; 18]],
+) -> bool
+    requires { ⌜ (length (now cs) ≡ length (now ts)) × (length (now es) ≡ length (now ts)) × (length (now rt) ≤ 65536) ⌝ ∗ ⌜ T (rising (now rt)) ⌝ }
+    ensures { λ r. ⌜ r ≡ strokeColumns (now (rt .entry)) (now (ts .entry)) (now (ps .entry)) (now (cs .entry)) (now (es .entry)) (now (fs .entry)) (now (fp .entry)) ⌝ }
+{
+    let n = ts.len();
+    if n < 4 {
+        return false;
+    }
+    if !times_pass(ts) {
+        return false;
+    }
+    if !merged_rows_pass(ps) {
+        return false;
+    }
+    if !counts_pass(cs) {
+        return false;
+    }
+    if !fractals_pass(fs, fp) {
+        return false;
+    }
+    let e = n - 1;
+    rows_named(rt, &cs[1..e], &es[1..e])
+}
+
+// The first n strokes, of these numbers of bars and of fractals.
+fn strokes_pass(
+    rt: &[i64],
+    n: usize,
+    bars: [usize; 65],
+    fractals: [usize; 65],
+    st: &[i64],
+    sp: &[[f64; 6]],
+    sc: &[usize],
+    se: &[[i64; 101]],
+    fs: &[[i64; 6]],
+    fp: &[[f64; 18]],
+) -> bool
+    requires { ⌜ (n ≤ 64) × (length (now rt) ≤ 65536) × (length (now st) ≤ 65536) × (total (take n bars) ≤ length (now st)) ⌝ ∗ ⌜ (length (now sp) ≡ length (now st)) × (length (now sc) ≡ length (now st)) × (length (now se) ≡ length (now st)) × (length (now fs) ≡ length (now st)) × (length (now fp) ≡ length (now st)) ⌝ ∗ ⌜ T (rising (now rt)) ⌝ }
+    ensures { λ r. ⌜ (r ≡ strokesColumns (now (rt .entry)) (take n bars) (take n fractals) (now (st .entry)) (now (sp .entry)) (now (sc .entry)) (now (se .entry)) (now (fs .entry)) (now (fp .entry))) × (length bars ≡ 65) × (length fractals ≡ 65) ⌝ }
+{
+    let mut a: usize = 0;
+    let mut k: usize = 0;
+    while k < n {
+        let b = bars[k];
+        let f = fractals[k];
+        if b <= f {
+            return false;
+        }
+        let e = a + b;
+        let g = a + f;
+        if !stroke_pass(
+            rt,
+            &st[a..e],
+            &sp[a..e],
+            &sc[a..e],
+            &se[a..e],
+            &fs[a..g],
+            &fp[a..g],
+        ) {
+            return false;
+        }
+        a = e;
+        k += 1;
+    }
+    true
+}
+
+// What is asked of a stand's numbers alone.
+fn numbers_pass(stand: Stand) -> bool
+    ensures { λ r. ⌜ r ≡ numbersPass stand ⌝ }
+{
+    let n = stand.strokes;
+    let rooms = stand.rooms;
+    let bars = stand.bars;
+    if 64 < n {
+        return false;
+    }
+    let counts = both(
+        both(stand.raw <= rooms.raw, stand.unfinished <= rooms.unfinished),
+        total_fits(bars, n, rooms.strokes),
+    );
+    let settings = both(
+        rooms_fit(rooms),
+        both(is_setting(stand.minimum), is_setting(stand.most)),
+    );
+    both(counts, settings)
+}
+
+// The n raw bars and the m unfinished bars.
+fn front_pass(
+    rt: &[i64],
+    ri: &[i32],
+    rp: &[[f64; 6]],
+    n: usize,
+    ut: &[i64],
+    ui: &[i32],
+    up: &[[f64; 6]],
+    uc: &[usize],
+    ue: &[[i64; 101]],
+    m: usize,
+) -> bool
+    requires { ⌜ (n ≤ length (now rt)) × (n ≤ length (now rp)) × (length (now rt) ≤ 65536) ⌝ ∗ ⌜ (m ≤ length (now ut)) × (m ≤ length (now up)) × (m ≤ length (now uc)) × (m ≤ length (now ue)) ⌝ }
+    ensures { λ r. ⌜ r ≡ frontColumns n m (rawStore (now (rt .entry)) (now (ri .entry)) (now (rp .entry))) (mergedStore (now (ut .entry)) (now (ui .entry)) (now (up .entry)) (now (uc .entry)) (now (ue .entry))) ⌝ }
+{
+    if !raw_columns_pass(&rt[..n], &rp[..n]) {
+        return false;
+    }
+    unfinished_pass(&rt[..n], &ut[..m], &up[..m], &uc[..m], &ue[..m])
+}
+
+// No more than the most strokes, where n raw bars are kept.
+fn strokes_sound(
+    rt: &[i64],
+    n: usize,
+    most: usize,
+    k: usize,
+    bars: [usize; 65],
+    fractals: [usize; 65],
+    st: &[i64],
+    sp: &[[f64; 6]],
+    sc: &[usize],
+    se: &[[i64; 101]],
+    fs: &[[i64; 6]],
+    fp: &[[f64; 18]],
+) -> bool
+    requires { ⌜ (k ≤ 64) × (n ≤ length (now rt)) × (length (now rt) ≤ 65536) × (length (now st) ≤ 65536) × (total (take k bars) ≤ length (now st)) ⌝ ∗ ⌜ (length (now sp) ≡ length (now st)) × (length (now sc) ≡ length (now st)) × (length (now se) ≡ length (now st)) × (length (now fs) ≡ length (now st)) × (length (now fp) ≡ length (now st)) ⌝ ∗ ⌜ T (rising (take n (now rt))) ⌝ }
+    ensures { λ r. ⌜ (r ≡ (leb k most && strokesColumns (take n (now (rt .entry))) (take k bars) (take k fractals) (now (st .entry)) (now (sp .entry)) (now (sc .entry)) (now (se .entry)) (now (fs .entry)) (now (fp .entry)))) × (length bars ≡ 65) × (length fractals ≡ 65) ⌝ }
+{
+    if most < k {
+        return false;
+    }
+    strokes_pass(&rt[..n], k, bars, fractals, st, sp, sc, se, fs, fp)
+}
+
+// ---- the stand
+
+// The lent stores have their recorded lengths.
+pub fn stores_sized(
+    stand: Stand,
+    rt: &[i64],
+    ri: &[i32],
+    rp: &[[f64; 6]],
+    ut: &[i64],
+    ui: &[i32],
+    up: &[[f64; 6]],
+    uc: &[usize],
+    ue: &[[i64; 101]],
+    st: &[i64],
+    si: &[i32],
+    sp: &[[f64; 6]],
+    sc: &[usize],
+    se: &[[i64; 101]],
+    fs: &[[i64; 6]],
+    fp: &[[f64; 18]],
+) -> bool
+    ensures { λ r. ⌜ r ≡ storesSized stand (storesOf (rawStore (now (rt .entry)) (now (ri .entry)) (now (rp .entry))) (mergedStore (now (ut .entry)) (now (ui .entry)) (now (up .entry)) (now (uc .entry)) (now (ue .entry))) (mergedStore (now (st .entry)) (now (si .entry)) (now (sp .entry)) (now (sc .entry)) (now (se .entry))) (fractalStore (now (fs .entry)) (now (fp .entry)))) ⌝ }
+{
+    let rooms = stand.rooms;
+    let raw = rooms.raw;
+    let unfinished = rooms.unfinished;
+    let strokes = rooms.strokes;
+    both(
+        both(
+            raw_sized(raw, rt, ri, rp),
+            merged_sized(unfinished, ut, ui, up, uc, ue),
+        ),
+        both(
+            merged_sized(strokes, st, si, sp, sc, se),
+            fractal_sized(strokes, fs, fp),
+        ),
+    )
+}
+
+// Question 4, for any stand and whatever the stores hold.
+pub fn is_sound(
+    stand: Stand,
+    rt: &[i64],
+    ri: &[i32],
+    rp: &[[f64; 6]],
+    ut: &[i64],
+    ui: &[i32],
+    up: &[[f64; 6]],
+    uc: &[usize],
+    ue: &[[i64; 101]],
+    st: &[i64],
+    si: &[i32],
+    sp: &[[f64; 6]],
+    sc: &[usize],
+    se: &[[i64; 101]],
+    fs: &[[i64; 6]],
+    fp: &[[f64; 18]],
+) -> bool
+    ensures { λ r. ⌜ r ≡ question4 stand (storesOf (rawStore (now (rt .entry)) (now (ri .entry)) (now (rp .entry))) (mergedStore (now (ut .entry)) (now (ui .entry)) (now (up .entry)) (now (uc .entry)) (now (ue .entry))) (mergedStore (now (st .entry)) (now (si .entry)) (now (sp .entry)) (now (sc .entry)) (now (se .entry))) (fractalStore (now (fs .entry)) (now (fp .entry)))) ⌝ }
+{
+    if !stores_sized(
+        stand,
+        rt,
+        ri,
+        rp,
+        ut,
+        ui,
+        up,
+        uc,
+        ue,
+        st,
+        si,
+        sp,
+        sc,
+        se,
+        fs,
+        fp,
+    ) {
+        return false;
+    }
+    if !numbers_pass(stand) {
+        return false;
+    }
+    let n = stand.raw;
+    let m = stand.unfinished;
+    if !front_pass(rt, ri, rp, n, ut, ui, up, uc, ue, m) {
+        return false;
+    }
+    let most = stand.most;
+    let k = stand.strokes;
+    let bars = stand.bars;
+    let fractals = stand.fractals;
+    strokes_sound(rt, n, most, k, bars, fractals, st, sp, sc, se, fs, fp)
+}
