@@ -1,0 +1,203 @@
+-- Laws of the steps of the asking: questions 5 to 10, the last stroke, and the plan behind the tail. Assumes nothing.
+use Prim.Native.Nat.{ℕ, zero, suc, _+_, _-_, _<_, _≤_}
+use native.Mathlib.Omega.{arith}
+use mathlib.Core.Bool.{Bool, true, false}
+use mathlib.Core.List.{List, [], _∷_, map}
+use mathlib.Core.Option.{Option, none, some}
+use mathlib.Core.Path.{_≡_, refl, ap, sym, _∙_, subst}
+use lib.ListN.{length, take, length-map}
+use lib.IntN.{ℤ, pos}
+use lib.Signed.{ltZ}
+use lib.Ieee.{Float, binary64, ofBits}
+use borrow.Author.Tests.{lt-ltb, le-ltb}
+use Rattle.bars.specs.declared.Bar.{Bar}
+use Rattle.bars.specs.Bars.{Merged}
+use Rattle.bars.specs.Lists.{last}
+use Rattle.bars.specs.Questions.{question9, notEarlier, firstFailed, firstFailedAfter}
+use Rattle.bars.specs.Stores.{RawStore, MergedStore, SizedRaw, rawPart, zipWith, barOf, rawBars, mergedBars, barAt}
+use Rattle.bars.proofs.Columns.{raw-length, raw-at}
+use Rattle.machine.specs.declared.Mark.{Mark}
+use Rattle.machine.specs.declared.Mark.the-variants.{D, G}
+use Rattle.machine.specs.declared.Direction.{Direction}
+use Rattle.machine.specs.declared.Direction.the-variants.{Up, Down}
+use Rattle.machine.specs.Feed.{isLater}
+use Rattle.machine.specs.FeedQuestions.{fewerIf, orElse, firstOf}
+use Rattle.strokes.specs.declared.Stand.{Stand}
+use Rattle.strokes.specs.declared.strokes_store.LastStroke.{LastStroke}
+use Rattle.strokes.specs.StrokeStore.{lastRead, lastBars, LastStands}
+use Rattle.strokes.proofs.StoredRaw.{last-take}
+use Rattle.check_bi.specs.declared.scan.Candle.{Candle}
+use Rattle.check_bi.specs.Scan.{candleOf}
+use Rattle.check_bi.specs.View.{view, candleFrom, candles}
+use Rattle.check_bi.proofs.ScanViews.{length-view, candles-view, view-map}
+use Rattle.asking.specs.declared.plan.Last.{Last}
+use Rattle.asking.specs.declared.plan.Plan.{Plan}
+use Rattle.asking.specs.MergedTail.{CanMergeTail, HasTail, barsOnly, mergedBy}
+use Rattle.asking.specs.FeedPlan.{planOf, InView}
+use Rattle.asking.specs.Asked.{lastOf}
+use Rattle.asking.specs.AskSteps.{earlyBy, EarlyOf, markFor, lastFrom, lastIn, HasLast, InColumns, CanTry, triedBars, TriedOf}
+
+-- ---- questions 5 to 10
+
+first-some : (q n : ℕ) → (q ≡ 0 → ⊥) → firstOf q n ≡ q
+unfolding firstOf
+first-some zero n h = absurd (h refl)
+first-some (suc q) n h = refl
+
+module _ (q : ℕ) (later : Bool) (count room : ℕ) where
+  pub early-some : (q ≡ 0 → ⊥) → q ≡ earlyBy q later count room
+  unfolding earlyBy
+  early-some h = sym (first-some q (orElse (fewerIf later count room) 10 0) h)
+
+  pub early-old : q ≡ 0 → later ≡ false → 0 ≡ earlyBy q later count room
+  unfolding earlyBy firstOf orElse fewerIf
+  early-old e f = sym (λ i. firstOf (e i) (orElse (fewerIf (f i) count room) 10 0))
+
+  pub early-room : q ≡ 0 → later ≡ true → count < room → 0 ≡ earlyBy q later count room
+  unfolding earlyBy firstOf orElse fewerIf
+  early-room e f h =
+      sym ((λ i. firstOf (e i) (orElse (fewerIf (f i) count room) 10 0)) ∙ ap (λ (x : Bool). orElse x 10 0) (lt-ltb count room h))
+
+  pub early-full : q ≡ 0 → later ≡ true → room ≤ count → 10 ≡ earlyBy q later count room
+  unfolding earlyBy firstOf orElse fewerIf
+  early-full e f h =
+      sym ((λ i. firstOf (e i) (orElse (fewerIf (f i) count room) 10 0)) ∙ ap (λ (x : Bool). orElse x 10 0) (le-ltb count room h))
+
+-- no raw bar is kept
+pub early-none : (l : List Bar) (n room q f : ℕ) (b : Bar) → n ≡ 0 → q ≡ firstFailed none b → f ≡ earlyBy q true n room → EarlyOf (last (take n l)) n room b (record { failed = f; later = true })
+unfolding isLater last
+early-none l n room q f b e g h =
+    let p : last (take n l) ≡ none = ap (λ (i : ℕ). last (take i l)) e in
+    subst (λ (o : Option Bar). EarlyOf o n room b (record { failed = f; later = true })) (sym p)
+    (record { failed = h ∙ ap (λ (x : ℕ). earlyBy x true n room) g; later = refl })
+
+newest-raw : (s : RawStore) (K n : ℕ) → SizedRaw s K → (n ≡ 0 → ⊥) → n ≤ K → last (take n (rawBars s)) ≡ some (barAt s (n - 1))
+newest-raw s K n h more fits =
+    let z = barAt s 0 in
+    let a = h .times in
+    let b = h .ids in
+    let c = h .prices in
+    last-take n (rawBars s) z (omega (arith, more)) (rw (raw-length s K h) fits)
+    ∙ ap some (raw-at s (n - 1) z (record { times = omega (arith, more); ids = omega (arith, more); prices = omega (arith, more) }))
+
+pub early-newest : (s : RawStore) (K n room q f : ℕ) (b k : Bar) (later : Bool) (x y : ℤ) → SizedRaw s K → (n ≡ 0 → ⊥) → n ≤ K → k ≡ barAt s (n - 1)
+    → q ≡ firstFailedAfter true x b → x ≡ k .time → y ≡ b .time → later ≡ ltZ x y → f ≡ earlyBy q later n room
+    → EarlyOf (last (take n (rawBars s))) n room b (record { failed = f; later = later })
+unfolding isLater firstFailed firstFailedAfter notEarlier question9
+early-newest s K n room q f b k later x y h more fits reads g e d w v =
+    let p = newest-raw s K n h more fits ∙ ap some (sym reads) in
+    let t : later ≡ ltZ (k .time) (b .time) = w ∙ (λ i. ltZ (e i) (d i)) in
+    subst (λ (o : Option Bar). EarlyOf o n room b (record { failed = f; later = later })) (sym p)
+    (record { failed = v ∙ (λ i. earlyBy ((g ∙ ap (λ (z : ℤ). firstFailedAfter true z b) e) i) (t i) n room); later = t })
+
+-- ---- the last stroke
+
+pub last-none : (s : Stand) (ts : List ℤ) (ps : List (List Float)) (n : ℕ) → n ≡ 0
+    → (record { mark = D; high = ofBits binary64 0; low = ofBits binary64 0; bars = 2; time = pos 0 } ≡ lastIn n s ts ps) × (2 ≤ 2) × (2 < 4294967296)
+unfolding lastIn lastOf
+last-none s ts ps n e = (ap (λ (i : ℕ). lastIn i s ts ps) (sym e), omega arith, omega arith)
+
+last-by : (s : Stand) (ts : List ℤ) (ps : List (List Float)) (n : ℕ) → (n ≡ 0 → ⊥) → lastFrom (lastRead s ts ps) ≡ lastIn n s ts ps
+unfolding lastIn
+last-by s ts ps zero h = absurd (h refl)
+last-by s ts ps (suc n) h = refl
+
+pub last-some : (s : Stand) (ts : List ℤ) (ps : List (List Float)) (k : LastStroke) (m : Mark) (x : ℤ) → x ≡ k .time → HasLast s ts ps → (s .strokes ≡ 0 → ⊥) → k ≡ lastRead s ts ps → m ≡ markFor (k .direction)
+    → (record { mark = m; high = k .high; low = k .low; bars = k .bars; time = x } ≡ lastIn (s .strokes) s ts ps) × (2 ≤ k .bars) × (k .bars < 4294967296)
+unfolding lastFrom lastRead lastBars
+last-some s ts ps k m x reads h kept e g =
+    let w = h .stands (omega (arith, kept)) in
+    let two = w .two in
+    let fit = w .fits in
+    let few = h .few in
+    let n : k .bars ≡ lastBars s = ap (λ (x : LastStroke). x .bars) e in
+    ((λ i. record { mark = g i; high = k .high; low = k .low; bars = k .bars; time = reads i }) ∙ ap lastFrom e ∙ last-by s ts ps (s .strokes) kept, omega arith, omega arith)
+
+-- ---- the plan
+
+pub plan-of-last : (kept minimum n : ℕ) (z w : Last) (v : List Candle) (r : Plan) → z ≡ w → (r ≡ planOf kept minimum z v) × InView r n → (r ≡ planOf kept minimum w v) × InView r n
+plan-of-last kept minimum n z w v r e h = (h .0 ∙ ap (λ (x : Last). planOf kept minimum x v) e, h .1)
+
+-- ---- the view of store and tail
+
+barCandle : Bar → Candle
+barCandle b = record { time = b .time; high = b .high; low = b .low }
+
+-- of the rows of a store
+raw-candles : (ts is : List ℤ) (ps : List (List Float)) → length is ≡ length ts → length ps ≡ length ts → map barCandle (rawBars (record { times = ts; ids = is; prices = ps })) ≡ candles ts ps
+unfolding rawBars zipWith candles barOf candleFrom barCandle
+raw-candles [] is ps a b = refl
+raw-candles (t ∷ ts) [] ps a b = absurd (omega arith)
+raw-candles (t ∷ ts) (i ∷ is) [] a b = absurd (omega arith)
+raw-candles (t ∷ ts) (i ∷ is) (p ∷ ps) a b = ap (candleFrom t p ∷_) (raw-candles ts is ps (omega arith) (omega arith))
+
+bars-candles : (l : List Merged) → map barCandle (barsOnly l) ≡ map candleOf l
+unfolding barsOnly barCandle candleOf
+bars-candles [] = refl
+bars-candles (k ∷ l) = ap (candleOf k ∷_) (bars-candles l)
+
+-- the bars l, seen in the first n rows of the store u and the first m of the tail w
+module _ (u w : RawStore) (K k n m : ℕ) (l : List Merged) (h : SizedRaw u K) (fits : n ≤ K) (t : HasTail u w k n m (barsOnly l)) where
+  pub view-candles : candles (view n (u .times) m (w .times)) (view n (u .prices) m (w .prices)) ≡ map candleOf l
+  view-candles =
+      let z = t .sized in
+      candles-view (u .times) (w .times) (u .prices) (w .prices) n m (rw (h .times) fits) (rw (h .prices) fits)
+      ∙ sym (λ i. view n (raw-candles (u .times) (u .ids) (u .prices) (h .ids ∙ sym (h .times)) (h .prices ∙ sym (h .times)) i) m
+      (raw-candles (w .times) (w .ids) (w .prices) (z .ids ∙ sym (z .times)) (z .prices ∙ sym (z .times)) i))
+      ∙ sym (view-map barCandle n (rawBars u) m (rawBars w))
+      ∙ ap (map barCandle) (t .bars)
+      ∙ bars-candles l
+
+  pub view-total : n + m ≡ length l
+  unfolding barsOnly
+  view-total =
+      let within = t .within in
+      sym (length-view (rawBars u) (rawBars w) n m (rw (raw-length u K h) fits) (rw (raw-length w k (t .sized)) within)) ∙ ap length (t .bars) ∙ length-map l (λ k. k .bar)
+
+-- ---- a bar is tried
+
+module _ (later : Bool) (s : Stand) (r : RawStore) (u : MergedStore) (ts : List ℤ) (ps : List (List Float)) (h : CanTry later s r u ts ps) (b : Bar) where
+  pub try-tail : (t : RawStore) → SizedRaw t 103 → CanMergeTail later u t (length (u .times)) (s .unfinished)
+  try-tail t z = record { store = h .unfinished; tail = z; fits = h .fits; again = h .again }
+
+  module _ (w : RawStore) (n m : ℕ)
+      (t : HasTail (rawPart u) w 103 n m (barsOnly (mergedBy later (take (s .raw) (rawBars r)) (take (s .unfinished) (mergedBars u)) b)) × (n ≤ s .unfinished)) where
+    pub try-columns : InColumns (u .times) (w .times) (u .prices) (w .prices) n m
+    try-columns =
+        let z = t .0 .sized in
+        let within = t .0 .within in
+        let front = t .1 in
+        let fits = h .fits in
+        let small = h .small in
+        let e = h .unfinished .raw .prices in
+        let f = z .times in
+        let g = z .prices in
+        record { times = omega arith; prices = omega arith; tail-times = omega arith; tail-prices = omega arith; few = omega arith }
+
+    pub try-done : (p : Plan) → (p ≡ planOf (s .strokes) (s .minimum) (lastIn (s .strokes) s ts ps) (candles (view n (u .times) m (w .times)) (view n (u .prices) m (w .prices)))) × InView p (n + m)
+        → TriedOf later s r u ts ps b (record { plan = p; total = n + m })
+    unfolding triedBars
+    try-done p q =
+        let fits : n ≤ length (u .times) = (let a = h .fits in let c = t .1 in omega arith) in
+        let l = mergedBy later (take (s .raw) (rawBars r)) (take (s .unfinished) (mergedBars u)) b in
+        let few = try-columns .few in
+        let in-view = q .1 .bars-in in
+        record {
+          plan = q .0 ∙ ap (planOf (s .strokes) (s .minimum) (lastIn (s .strokes) s ts ps)) (view-candles (rawPart u) w (length (u .times)) 103 n m l (h .unfinished .raw) fits (t .0));
+          total = view-total (rawPart u) w (length (u .times)) 103 n m l (h .unfinished .raw) fits (t .0);
+          found = omega arith;
+        }
+
+-- ---- the mark of a direction
+
+pub mark-up : (d : Direction) → d ≡ Up → D ≡ markFor d
+unfolding markFor
+mark-up d e = ap markFor (sym e)
+
+pub mark-down : (d : Direction) → d ≡ Down → G ≡ markFor d
+unfolding markFor
+mark-down d e = ap markFor (sym e)
+
+-- what last_stroke asks
+pub last-asks : (s : Stand) (ts : List ℤ) (ps : List (List Float)) → HasLast s ts ps → (s .strokes ≡ 0 → ⊥) → LastStands s (length ts) × (length ps ≡ length ts)
+last-asks s ts ps h kept = (h .stands (omega (arith, kept)), h .even)

@@ -1,0 +1,6 @@
+pub mod PutBars
+pub mod StepLaws
+pub mod PlanInView
+pub mod MachineMoves
+pub mod MoveLaws
+pub mod WriteLaws

@@ -1,0 +1,212 @@
+-- What each writing step asks of the stores that it is lent and what it leaves in them. Assumes nothing.
+use Prim.Native.Nat.{ℕ, zero, suc, _+_, _-_, _<_, _≤_}
+use native.Mathlib.Omega.{arith}
+use mathlib.Core.Bool.{Bool, true, false}
+use mathlib.Core.List.{List, [], _∷_, _++_}
+use mathlib.Core.Path.{_≡_, refl, ap, sym, _∙_, subst}
+use lib.ListN.{length, take, drop, getD, length-take, length-drop}
+use lib.Seq.{take-suc, length-take-le}
+use lib.Dec.{T}
+use lib.IntN.{ℤ, pos}
+use lib.Signed.{ltZ}
+use Rattle.bars.specs.declared.Bar.{Bar}
+use Rattle.bars.specs.Bars.{Merged}
+use Rattle.bars.specs.Lists.{skipWhile}
+use Rattle.bars.specs.Stores.{RawStore, MergedStore, SizedRaw, SizedMerged, rawBars, mergedBars}
+use Rattle.bars.proofs.Columns.{raw-length, merged-length}
+use Rattle.machine.specs.Strokes.{Stroke}
+use Rattle.machine.specs.Fractals.{Fractal}
+use Rattle.machine.specs.Break.{joined}
+use Rattle.machine.specs.Soundness.{barsOf}
+use Rattle.strokes.specs.declared.Stand.{Stand}
+use Rattle.strokes.specs.Stored.{FractalStore, barCounts, fractalCounts, total, strokeWith, strokesWith, elementsSized}
+use Rattle.strokes.specs.StoreSteps.{HasRaw, HasUnfinished, CanJoin, keptRaw, keptUnfinished, withRaw, withUnfinished, withoutLast, storedStroke}
+use Rattle.strokes.specs.StrokeStore.{Kept, Unmoved, Made, keptStrokes, madeStroke, lastPlace, lastBars}
+use Rattle.strokes.proofs.StoredStates.{kept-unfinished}
+use Rattle.writing.specs.WriteSteps.{MadeWhere, CanBreak, addIf, leftStand, leftBars, dropEarlier}
+
+-- ---- the unfinished bars begin at a place
+
+itself : (s : Stand) → s ≡ withUnfinished s (s .unfinished)
+unfolding withUnfinished
+itself s = refl
+
+pub begun-none : (s : Stand) (u : MergedStore) (k : ℕ) → SizedMerged u (s .rooms .unfinished) → s .unfinished ≤ s .rooms .unfinished → k ≡ 0
+    → HasUnfinished s s u (drop k (keptUnfinished s u))
+begun-none s u k h g e =
+    let l = keptUnfinished s u in
+    let d : l ≡ drop k l = ap (λ (i : ℕ). drop i l) (sym e) in
+    record { bars = d; stand = itself s ∙ ap (withUnfinished s) (sym (kept-unfinished s u h g) ∙ ap length d); sized = h }
+
+-- ---- the last stroke is joined
+
+pub take-before : (l : List ℕ) (n : ℕ) → 1 ≤ n → n ≤ length l → take n l ≡ take (n - 1) l ++ getD l (n - 1) 0 ∷ []
+take-before l n one q =
+    let e : n ≡ suc (n - 1) = omega arith in
+    ap (λ (m : ℕ). take m l) e ∙ take-suc l (n - 1) 0 (omega arith)
+
+total-more : (ns : List ℕ) (n : ℕ) → total (ns ++ n ∷ []) ≡ total ns + n
+unfolding total
+total-more [] n = omega arith
+total-more (x ∷ ns) n = omega (arith, total-more ns n)
+
+pub last-sum : (s : Stand) → 1 ≤ s .strokes → s .strokes ≤ length (s .bars) → total (barCounts s) ≡ lastPlace s + lastBars s
+unfolding barCounts lastPlace lastBars
+last-sum s one lb = ap total (take-before (s .bars) (s .strokes) one lb) ∙ total-more (take (s .strokes - 1) (s .bars)) (getD (s .bars) (s .strokes - 1) 0)
+
+-- its bars are among those that the strokes have
+pub last-elements : (s : Stand) (k : MergedStore) (at : ℕ) → 1 ≤ s .strokes → s .strokes ≤ length (s .bars) → at ≡ total (take (s .strokes - 1) (s .bars))
+    → T (elementsSized (total (barCounts s)) k) → T (elementsSized (at + getD (s .bars) (s .strokes - 1) 0) k)
+unfolding lastPlace lastBars
+last-elements s k at one lb e t =
+    subst (λ (n : ℕ). T (elementsSized n k)) (last-sum s one lb ∙ ap (λ (n : ℕ). n + getD (s .bars) (s .strokes - 1) 0) (sym e)) t
+
+module _ (s : Stand) (u k : MergedStore) where
+  pub can-join : (at : ℕ) → SizedMerged u (s .rooms .unfinished) → SizedMerged k (s .rooms .strokes) → s .unfinished ≤ s .rooms .unfinished
+      → CanBreak s k (keptUnfinished s u) → at ≡ total (take (s .strokes - 1) (s .bars)) → CanJoin s u k at (getD (s .bars) (s .strokes - 1) 0)
+  unfolding lastPlace lastBars
+  can-join at hu hk fits h e =
+      let within = h .within in
+      record {
+        unfinished = hu;
+        strokes = hk;
+        fits = fits;
+        kept = h .kept;
+        two = h .two;
+        within = omega arith;
+        room = subst (λ (i : ℕ). length (joined (storedStroke k i (lastBars s)) (keptUnfinished s u)) ≤ s .rooms .unfinished) (sym e) (h .room);
+      }
+
+  pub joined-last : (at : ℕ) (r : Stand) (w : MergedStore) (l : List Merged) → at ≡ total (take (s .strokes - 1) (s .bars))
+      → HasUnfinished (withoutLast s) r w (joined (storedStroke k at (getD (s .bars) (s .strokes - 1) 0)) l)
+      → HasUnfinished (withoutLast s) r w (joined (storedStroke k (lastPlace s) (lastBars s)) l)
+  unfolding lastPlace lastBars
+  joined-last at r w l e h = subst (λ (i : ℕ). HasUnfinished (withoutLast s) r w (joined (storedStroke k i (lastBars s)) l)) e h
+
+-- ---- what is left
+
+pub record CanJoinLast (s : Stand) (u k : MergedStore) : Type 0 where
+  pub unfinished : SizedMerged u (s .rooms .unfinished)
+  pub strokes : SizedMerged k (s .rooms .strokes)
+  pub fits : s .unfinished ≤ s .rooms .unfinished
+  pub breaks : CanBreak s k (keptUnfinished s u)
+
+-- the step before has left the bars l
+module _ (s v : Stand) (w k : MergedStore) (l : List Merged) (h : HasUnfinished s v w l) where
+  pub left-fits : v .unfinished ≤ s .rooms .unfinished
+  unfolding withUnfinished
+  left-fits =
+      let a : v .unfinished ≡ length l = ap (λ (x : Stand). x .unfinished) (h .stand) in
+      let b : length (take (v .unfinished) (mergedBars w)) ≡ length l = ap length (h .bars) in
+      let c = length-take (v .unfinished) (mergedBars w) in
+      let d = merged-length w (s .rooms .unfinished) (h .sized) in
+      omega arith
+
+  pub left-rooms : v .rooms ≡ s .rooms
+  unfolding withUnfinished
+  left-rooms = ap (λ (x : Stand). x .rooms) (h .stand)
+
+  pub left-elements : T (elementsSized (total (barCounts s)) k) → T (elementsSized (total (barCounts v)) k)
+  unfolding withUnfinished barCounts
+  left-elements t = subst (λ (x : Stand). T (elementsSized (total (take (x .strokes) (x .bars))) k)) (sym (h .stand)) t
+
+  same-breaks : CanBreak s k l → CanBreak (withUnfinished s (length l)) k l
+  unfolding withUnfinished lastPlace lastBars
+  same-breaks g = record { kept = g .kept; most = g .most; two = g .two; within = g .within; room = g .room }
+
+  pub left-breaks : SizedMerged k (s .rooms .strokes) → CanBreak s k l → CanJoinLast v w k
+  left-breaks hk g =
+      record {
+        unfinished = subst (λ x. SizedMerged w (x .unfinished)) (sym left-rooms) (h .sized);
+        strokes = subst (λ x. SizedMerged k (x .strokes)) (sym left-rooms) hk;
+        fits = subst (λ x. v .unfinished ≤ x .unfinished) (sym left-rooms) left-fits;
+        breaks = subst (λ (x : List Merged). CanBreak v k x) (sym (h .bars)) (subst (λ (x : Stand). CanBreak x k l) (sym (h .stand)) (same-breaks g));
+      }
+
+  after-last : (r : Stand) (w' : MergedStore) (t : Bool) → t ≡ true
+      → HasUnfinished (withoutLast (withUnfinished s (length l))) r w' (joined (storedStroke k (lastPlace (withUnfinished s (length l))) (lastBars (withUnfinished s (length l)))) l)
+      → HasUnfinished (leftStand t s) r w' (leftBars t s k l)
+  unfolding withUnfinished withoutLast lastPlace lastBars leftStand leftBars
+  after-last r w' t e g =
+      subst (λ (x : Bool). HasUnfinished (leftStand x s) r w' (leftBars x s k l)) (sym e) (record { bars = g .bars; stand = g .stand; sized = g .sized })
+
+  pub left-joined : (r : Stand) (w' : MergedStore) (t : Bool) → t ≡ true
+      → HasUnfinished (withoutLast v) r w' (joined (storedStroke k (lastPlace v) (lastBars v)) (keptUnfinished v w))
+      → HasUnfinished (leftStand t s) r w' (leftBars t s k l)
+  left-joined r w' t e g =
+      after-last r w' t e
+      (subst (λ (x : Stand). HasUnfinished (withoutLast x) r w' (joined (storedStroke k (lastPlace x) (lastBars x)) l)) (h .stand)
+      (subst (λ (x : List Merged). HasUnfinished (withoutLast v) r w' (joined (storedStroke k (lastPlace v) (lastBars v)) x)) (h .bars) g))
+
+  pub left-as-is : (t : Bool) → t ≡ false → HasUnfinished (leftStand t s) v w (leftBars t s k l)
+  unfolding leftStand leftBars
+  left-as-is t e = subst (λ (x : Bool). HasUnfinished (leftStand x s) v w (leftBars x s k l)) (sym e) h
+
+-- ---- the raw bars that are kept
+
+module _ (s v : Stand) (m : RawStore) (l : List Bar) (h : HasRaw s v m l) where
+  pub raw-rooms : v .rooms ≡ s .rooms
+  unfolding withRaw
+  raw-rooms = ap (λ (x : Stand). x .rooms) (h .stand)
+
+  pub raw-sized : SizedRaw m (v .rooms .raw)
+  raw-sized = subst (λ x. SizedRaw m (x .raw)) (sym raw-rooms) (h .sized)
+
+  pub raw-fits : v .raw ≤ v .rooms .raw
+  unfolding withRaw
+  raw-fits =
+      let a : v .raw ≡ length l = ap (λ (x : Stand). x .raw) (h .stand) in
+      let b : length (take (v .raw) (rawBars m)) ≡ length l = ap length (h .bars) in
+      let c = length-take (v .raw) (rawBars m) in
+      let d = raw-length m (v .rooms .raw) raw-sized in
+      omega arith
+
+  pub none-dropped : (n : ℕ) (t : ℤ) → n ≡ 0 → HasRaw s v m (dropEarlier n t l)
+  unfolding dropEarlier
+  none-dropped n t e = subst (λ (x : ℕ). HasRaw s v m (dropEarlier x t l)) (sym e) h
+
+  after-raw : (r : Stand) (w : RawStore) (l' : List Bar) → HasRaw (withRaw s (length l)) r w l' → HasRaw s r w l'
+  unfolding withRaw
+  after-raw r w l' g = record { bars = g .bars; stand = g .stand; sized = g .sized }
+
+  drop-some : (n : ℕ) (t : ℤ) → (n ≡ 0 → ⊥) → skipWhile (λ k. ltZ (k .time) t) l ≡ dropEarlier n t l
+  unfolding dropEarlier
+  drop-some zero t e = absurd (e refl)
+  drop-some (suc n) t e = refl
+
+  pub some-dropped : (r : Stand) (w : RawStore) (n : ℕ) (t t' : ℤ) → (n ≡ 0 → ⊥) → t' ≡ t → HasRaw v r w (skipWhile (λ k. ltZ (k .time) t') (keptRaw v m)) → HasRaw s r w (dropEarlier n t l)
+  some-dropped r w n t t' e q g =
+      subst (HasRaw s r w) (drop-some n t e)
+      (after-raw r w (skipWhile (λ k. ltZ (k .time) t) l)
+      (subst (λ (x : Stand). HasRaw x r w (skipWhile (λ k. ltZ (k .time) t) l)) (h .stand)
+      (subst (λ (x : ℤ). HasRaw v r w (skipWhile (λ k. ltZ (k .time) x) l)) q
+      (subst (λ (x : List Bar). HasRaw v r w (skipWhile (λ k. ltZ (k .time) t') x)) (h .bars) g))))
+
+-- ---- a stroke is made, or none
+
+module _ (made : Bool) (s : Stand) (u k : MergedStore) (f : FractalStore) (first bars : ℕ) where
+  pub made-one : (r : Stand) (k' : MergedStore) (f' : FractalStore) → made ≡ true → Made s u k f first bars r k' f' → MadeWhere made s u k f first bars r k' f'
+  unfolding addIf
+  made-one r k' f' e h =
+      subst (λ (x : Bool). MadeWhere x s u k f first bars r k' f') (sym e) (record { strokes = h .strokes; kept = h .kept; rest = h .rest; elements = h .elements })
+
+  pub made-none : made ≡ false → Kept s k f → MadeWhere made s u k f first bars s k f
+  unfolding addIf
+  made-none e h =
+      subst (λ (x : Bool). MadeWhere x s u k f first bars s k f) (sym e)
+      (record { strokes = refl; kept = h; rest = record { settings = refl; rooms = refl; raw = refl; unfinished = refl }; elements = λ a b. b })
+
+-- ---- as many are kept as are counted
+
+pub counts-alike : (s : Stand) → length (s .bars) ≡ 65 → length (s .fractals) ≡ 65 → length (barCounts s) ≡ length (fractalCounts s)
+unfolding barCounts fractalCounts
+counts-alike s lb lf = omega (arith, length-take (s .strokes) (s .bars), length-take (s .strokes) (s .fractals))
+
+pub bars-are : (ns ms : List ℕ) (ks : List Merged) (fs : List Fractal) → length ns ≡ length ms → total ns ≤ length ks → barsOf (strokesWith ns ms ks fs) ≡ total ns
+unfolding strokesWith strokeWith barsOf total
+bars-are [] ms ks fs e h = refl
+bars-are (n ∷ ns) [] ks fs e h = absurd (omega arith)
+bars-are (n ∷ ns) (m ∷ ms) ks fs e h =
+    let a : length (take n ks) ≡ n = length-take-le n ks (omega arith) in
+    let b = bars-are ns ms (drop n ks) (drop n fs) (omega arith) (omega (arith, length-drop n ks)) in
+    λ j. a j + b j

@@ -1,0 +1,34 @@
+// What a feed writes to the raw store.
+ghost use mathlib.Core.Path.{_≡_};
+ghost use mathlib.Core.Bool.{true, false};
+ghost use Prim.Native.Nat.{_<_, _≤_};
+ghost use lib.ListN.{length, getD};
+ghost use lib.IntN.{pos};
+ghost use Rattle.bars.specs.Stores.{rawStore, SizedRaw};
+ghost use Rattle.machine.specs.Feed.{rawWith};
+ghost use Rattle.strokes.specs.StoreSteps.{HasRaw, keptRaw, rawOnly};
+ghost use Rattle.writing.specs.WriteSteps.{CanKeep, dropEarlier};
+use bars::Bar;
+use strokes::Stand;
+
+// The raw bar is put on or replaces the last one, and with a stroke kept, raw bars earlier than the stroke store's first time are dropped.
+pub fn keep_raw(
+    stand: Stand,
+    rt: &mut [i64],
+    ri: &mut [i32],
+    rp: &mut [[f64; 6]],
+    st: &[i64],
+    later: bool,
+    b: Bar,
+) -> Stand
+    requires { ⌜ CanKeep stand (rawStore (now rt) (now ri) (now rp)) (length (now st)) later ⌝ }
+    ensures { λ r. ⌜ HasRaw stand r (rawStore (now (rt .exit)) (now (ri .exit)) (now (rp .exit))) (dropEarlier (stand .strokes) (getD (now (st .entry)) 0 (pos 0)) (rawWith later (rawOnly (keptRaw stand (rawStore (now (rt .entry)) (now (ri .entry)) (now (rp .entry))))) b)) ⌝ }
+{
+    let n = stand.strokes;
+    let put = stand.put_raw(rt, ri, rp, later, b);
+    if n == 0 {
+        return put;
+    }
+    let t = st[0];
+    put.drop_raw(rt, ri, rp, t)
+}
