@@ -1,0 +1,17 @@
+pub mod UnfinishedGiven
+pub mod MeasureLaws
+pub mod StrokeAt
+pub mod ListLaws
+pub mod ListFacts
+pub mod UbiLaws
+pub mod UbiFacts
+pub mod StrokeColumns
+pub mod NamedAnswers
+pub mod SeekLaws
+pub mod FxLaws
+pub mod FxListed
+pub mod FxWritten
+pub mod FxWindowLaws
+pub mod FxPasses
+pub mod FxSame
+pub mod InnerRawLaws

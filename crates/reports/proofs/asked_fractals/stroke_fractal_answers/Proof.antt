@@ -1,0 +1,52 @@
+use Rattle.reports.proofs.NamedAnswers.{stroke-none, stroke-kept, stroke-after, answers-unsound, answers-missing, answers-fit, answers-in}
+use Rattle.reports.proofs.StrokeColumns.{rows-small, lends}
+use Rattle.sound.proofs.SoundFacts.{is-sound as sound-of}
+use Rattle.sound.specs.SoundStand.{storesOf}
+use borrow.Author.Tests.{not-true, not-false}
+use mathlib.Core.Path.{_≡_, refl, sym, _∙_}
+use borrow.Author.Needs.{needs}
+use Rattle.reports.proofs.asked_fractals.stroke_fractal_answers.Statement.{statement}
+use Rattle.reports.proofs.asked_fractals.stroke_fractal_answers.Tie as tie
+
+is-sound-requires : tie.Need-is-sound-requires
+is-sound-requires c κs = search needs
+
+refused-requires : tie.Need-refused-requires
+refused-requires c κs = search needs
+
+returns : tie.Need-returns
+returns c = answers-unsound _ _ _ _ _ (c .refused .ensures) (sym (c .before .before .is-sound .ensures) ∙ not-true _ (c .before .if1 .taken))
+
+kept-requires : tie.Need-kept-requires
+kept-requires c κs = search needs
+
+refused-requires-2 : tie.Need-refused-requires-2
+refused-requires-2 c κs = search needs
+
+returns-2 : tie.Need-returns-2
+returns-2 c = answers-missing _ _ _ _ _ (c .refused2 .ensures) (sym (c .before .before .before .before .is-sound .ensures) ∙ not-false _ (c .before .before .before .if1 .left)) (stroke-none _ _ _ (sym (c .before .before .before .before .is-sound .ensures) ∙ not-false _ (c .before .before .before .if1 .left)) (c .before .before .kept .ensures .1) (c .before .before .kept .ensures .2) (stroke-after _ _ _ (c .before .before .kept .ensures .0) (c .before .if2 .taken)))
+
+rows-of-requires : tie.Need-rows-of-requires
+rows-of-requires c κs = rows-small _ _ _ (sound-of _ _ (sym (c .before .before .before .is-sound .ensures) ∙ not-false _ (c .before .before .if1 .left))) (stroke-kept _ _ _ (c .before .kept .ensures .0) (c .if2 .left)) (c .before .kept .ensures .1) (c .before .kept .ensures .2)
+
+answers-in-requires : tie.Need-answers-in-requires
+unfolding storesOf
+answers-in-requires c κs = answers-fit _ _ _ _ (lends _ _ _ _ (sound-of _ _ (sym (c .before .before .before .before .is-sound .ensures) ∙ not-false _ (c .before .before .before .if1 .left))) (stroke-kept _ _ _ (c .before .before .kept .ensures .0) (c .before .if2 .left)) (c .rows-of .ensures .0) (c .before .before .kept .ensures .1) (c .before .before .kept .ensures .2))
+
+returns-3 : tie.Need-returns-3
+unfolding storesOf
+returns-3 c = let l = lends _ _ _ _ (sound-of _ _ (sym (c .before .before .before .before .before .is-sound .ensures) ∙ not-false _ (c .before .before .before .before .if1 .left))) (stroke-kept _ _ _ (c .before .before .before .kept .ensures .0) (c .before .before .if2 .left)) (c .before .rows-of .ensures .0) (c .before .before .before .kept .ensures .1) (c .before .before .before .kept .ensures .2) in answers-in _ _ _ _ _ _ l (sym (c .before .before .before .before .before .is-sound .ensures) ∙ not-false _ (c .before .before .before .before .if1 .left)) (c .answers-in .ensures .0) (c .answers-in .ensures .1)
+
+pub stroke-fractal-answers-spec : {M : Type 1} → statement M
+stroke-fractal-answers-spec =
+    tie.close
+    (tie.spec
+    is-sound-requires
+    refused-requires
+    returns
+    kept-requires
+    refused-requires-2
+    returns-2
+    rows-of-requires
+    answers-in-requires
+    returns-3)

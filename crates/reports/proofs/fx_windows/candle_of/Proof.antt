@@ -1,0 +1,12 @@
+use Rattle.check_bi.specs.Scan.{candleOf}
+use Rattle.strokes.specs.StrokeStore.{plainBar}
+use borrow.Author.Needs.{needs}
+use Rattle.reports.proofs.fx_windows.candle_of.Statement.{statement}
+use Rattle.reports.proofs.fx_windows.candle_of.Tie as tie
+
+returns : tie.Need-returns
+unfolding candleOf plainBar
+returns c = search needs
+
+pub candle-of-spec : {M : Type 1} → statement M
+candle-of-spec = tie.close (tie.spec returns)

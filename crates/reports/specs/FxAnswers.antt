@@ -1,0 +1,61 @@
+-- What get_fx_list answers of a stand and its lent stores, and the lent output that it writes. Definitions only.
+use Prim.Native.Nat.{ℕ, _≤_}
+use mathlib.Core.Bool.{Bool, true, false, _&&_}
+use mathlib.Core.List.{List, _++_}
+use mathlib.Core.Path.{_≡_}
+use lib.ListN.{length}
+use lib.Dec.{leb}
+use Rattle.bars.specs.Stores.{RawStore, RoomRaw}
+use Rattle.machine.specs.Fractals.{Fractal}
+use Rattle.machine.specs.Stand.{State}
+use Rattle.strokes.specs.declared.Stand.{Stand}
+use Rattle.strokes.specs.Stored.{Stores, FractalStore, stateOf, storedFractals, barCounts, fractalCounts, total}
+use Rattle.strokes.specs.StrokeStore.{Fewer, fractalsOf, putFractals}
+use Rattle.reports.specs.declared.fx_answer.FxListAnswer.{FxListAnswer}
+use Rattle.reports.specs.FractalList.{getFxList}
+use Rattle.reports.specs.FxListing.{strokeRows}
+
+-- ---- all fractals that are gone through
+
+-- of a stand, its unfinished bars and its rows of fractals: those of the kept strokes, then those of the unfinished bars
+unfoldable pub allRows : Stand → RawStore → FractalStore → List Fractal
+unfolding strokeRows barCounts fractalCounts storedFractals fractalsOf
+allRows s u f = strokeRows (barCounts s) (fractalCounts s) (storedFractals f) ++ fractalsOf u 0 (s .unfinished)
+
+-- the columns have what the stand counts
+pub record CanGo (s : Stand) (u : RawStore) (f : FractalStore) : Type 0 where
+  pub strokes : s .strokes ≤ 65
+  pub same : length (f .prices) ≡ length (f .stamps)
+  pub small : length (f .stamps) ≤ 65536
+  pub fits : total (barCounts s) ≤ length (f .stamps)
+  pub fewer : Fewer (barCounts s) (fractalCounts s)
+  pub bars : RoomRaw u (s .unfinished)
+  pub few : s .unfinished ≤ 65536
+
+-- ---- the answer
+
+-- question 14: both columns of the output have at least n places
+unfoldable pub fitsAll : FractalStore → ℕ → Bool
+fitsAll d n = leb n (length (d .stamps)) && leb n (length (d .prices))
+
+-- by question 4 and by question 14, of n fractals
+unfoldable pub listedBy : Bool → Bool → ℕ → FxListAnswer
+listedBy true true n = record { failed = 0; count = n }
+listedBy true false n = record { failed = 14; count = 0 }
+listedBy false u n = record { failed = 4; count = 0 }
+
+-- a refusal leaves the output as it was
+unfoldable pub outputBy : Bool → FractalStore → List Fractal → FractalStore
+unfolding putFractals
+outputBy true d l = putFractals d 0 l
+outputBy false d l = d
+
+-- The answer r and the output d', which was d, are those of the list l, where t says whether question 4 passed.
+pub record FxDone (t : Bool) (l : List Fractal) (d d' : FractalStore) (r : FxListAnswer) : Type 0 where
+  pub answer : r ≡ listedBy t (fitsAll d (length l)) (length l)
+  pub output : d' ≡ outputBy (t && fitsAll d (length l)) d l
+
+-- get_fx_list of what is kept
+unfoldable pub fxListOf : State → List Fractal
+unfolding getFxList
+fxListOf s = getFxList (s .strokes) (s .unfinished)

@@ -1,0 +1,37 @@
+-- What is answered of a fractal that is named by its stroke and its place in that stroke's list, or by its place among the unfinished bars' fractals.
+-- Definitions only.
+use Prim.Native.Nat.{ℕ}
+use mathlib.Core.Bool.{Bool, true, false}
+use mathlib.Core.Option.{Option, none, some}
+use lib.IntN.{pos}
+use lib.Ieee.{fin}
+use Rattle.machine.specs.Fractals.{Fractal}
+use Rattle.strokes.specs.declared.Stand.{Stand}
+use Rattle.strokes.specs.Stored.{Stores, stateOf}
+use Rattle.sound.specs.Question4.{question4}
+use Rattle.reports.specs.declared.fractal_answers.Strength.the-variants.{Weak}
+use Rattle.reports.specs.declared.fractal_answers.FractalAnswers.{FractalAnswers}
+use Rattle.reports.specs.declared.asked_fractals.FractalAnswer.{FractalAnswer}
+use Rattle.reports.specs.FractalAnswers.{answersOf}
+use Rattle.reports.specs.Reports.{fractalAt, unfinishedAt}
+
+-- what a refusal answers
+unfoldable pub noAnswers : FractalAnswers
+noAnswers = record { «power_str» = Weak; «power_volume» = fin false 0 (pos 0); «has_zs» = false }
+
+-- question 4, then question 13, whether there is such a fractal
+unfoldable pub answersIf : Bool → Option Fractal → FractalAnswer
+unfolding noAnswers answersOf
+answersIf false o = record { failed = 4; answers = noAnswers }
+answersIf true none = record { failed = 13; answers = noAnswers }
+answersIf true (some f) = record { failed = 0; answers = answersOf f }
+
+-- of fractal j of the stroke at place i
+unfoldable pub strokeAnswersAt : Stand → Stores → ℕ → ℕ → FractalAnswer
+unfolding answersIf question4 stateOf fractalAt
+strokeAnswersAt s m i j = answersIf (question4 s m) (fractalAt ((stateOf s m) .strokes) i j)
+
+-- of fractal j of the unfinished bars
+unfoldable pub unfinishedAnswersAt : Stand → Stores → ℕ → FractalAnswer
+unfolding answersIf question4 stateOf unfinishedAt
+unfinishedAnswersAt s m j = answersIf (question4 s m) (unfinishedAt ((stateOf s m) .unfinished) j)

@@ -1,0 +1,35 @@
+// What is asked of kept strokes and of unfinished bars: measures, fractal answers, lists, the unfinished summary.
+mod asked_fractals;
+mod asked_measures;
+mod asked_raw_bars;
+mod fractal_answers;
+mod fx_answer;
+mod fx_list;
+mod fx_windows;
+mod measures;
+mod seek_fractals;
+mod stroke_rows;
+
+pub use asked_fractals::FractalAnswer;
+pub use asked_fractals::stroke_fractal_answers;
+pub use asked_fractals::unfinished_fractal_answers;
+pub use asked_measures::MeasuresAnswer;
+
+mod finished;
+mod ubi;
+
+pub use asked_measures::measures_at;
+pub use asked_raw_bars::RawBarsAnswer;
+pub use asked_raw_bars::raw_bars;
+pub use finished::FinishedBis;
+pub use finished::LastBiExtend;
+pub use finished::get_finished_bis;
+pub use finished::last_bi_extend;
+pub use fractal_answers::FractalAnswers;
+pub use fractal_answers::Strength;
+pub use fx_answer::FxListAnswer;
+pub use fx_answer::get_fx_list;
+pub use measures::Measures;
+pub use ubi::FractalBars;
+pub use ubi::UbiAnswer;
+pub use ubi::get_ubi;
