@@ -3,11 +3,11 @@
 use mathlib.Core.Path.{sym, subst}
 use mathlib.Core.List.{[], map}
 use mathlib.Core.Option.{none}
-use Rattle.strokes.specs.Strokes.{Stroke}
-use Rattle.strokes.specs.Calls.{calls}
-use Rattle.strokes.proofs.Facts.{Good}
-use Rattle.strokes.proofs.Lists.{All-map}
-use Rattle.strokes.proofs.KeptStrokes.{kept-sums, kept-good, kept-meet}
+use Rattle.machine.specs.Strokes.{Stroke}
+use Rattle.machine.specs.Calls.{calls}
+use Rattle.machine.proofs.Facts.{Good}
+use Rattle.machine.proofs.Lists.{All-map}
+use Rattle.machine.proofs.KeptStrokes.{kept-sums, kept-good, kept-meet}
 use Rattle.zones.specs.FakeStrokes.{FakesOf, fakes}
 use Rattle.zones.specs.Zones.{summary}
 use Rattle.zones.specs.Claims.{kept, Inside, Demand3}

@@ -8,13 +8,13 @@ use mathlib.Core.List.{List, [], _∷_, _++_, map}
 use mathlib.Core.Option.{Option, some}
 use lib.ListN.{length, length-map}
 use lib.Dec.{T}
-use Rattle.strokes.specs.declared.Mark.{Mark}
-use Rattle.strokes.specs.declared.Mark.the-variants.{D, G}
-use Rattle.strokes.specs.Fractals.{Fractal, timeOf, sameMark, taken}
-use Rattle.strokes.specs.Strokes.{directionOf}
-use Rattle.strokes.proofs.FewerFractals.{Alternate}
-use Rattle.strokes.proofs.Facts.{AtMostOne, nothing, one}
-use Rattle.strokes.proofs.Marks.{back, not-same}
+use Rattle.machine.specs.declared.Mark.{Mark}
+use Rattle.machine.specs.declared.Mark.the-variants.{D, G}
+use Rattle.machine.specs.Fractals.{Fractal, timeOf, sameMark, taken}
+use Rattle.machine.specs.Strokes.{directionOf}
+use Rattle.machine.proofs.FewerFractals.{Alternate}
+use Rattle.machine.proofs.Facts.{AtMostOne, nothing, one}
+use Rattle.machine.proofs.Marks.{back, not-same}
 use Rattle.zones.specs.FakeStrokes.{Fake, evenPart, pairs, fakes, fakeDirection, fakeWith, fakeFrom, fakeOf, createFakeBis, Runs, FakesOf}
 use Rattle.zones.specs.Claims.{turned, Told}
 

@@ -6,11 +6,11 @@ use mathlib.Core.Path.{_≡_, refl, ap, _∙_}
 use mathlib.Core.List.{List, [], _∷_, map}
 use lib.ListN.{length, length-map}
 use Rattle.bars.specs.Bars.{Merged}
-use Rattle.strokes.specs.declared.Mark.{Mark}
-use Rattle.strokes.specs.declared.Mark.the-variants.{D, G}
-use Rattle.strokes.specs.Fractals.{Fractal, timeOf}
-use Rattle.strokes.specs.Strokes.{directionOf}
-use Rattle.strokes.specs.Scan.{candleOf}
+use Rattle.machine.specs.declared.Mark.{Mark}
+use Rattle.machine.specs.declared.Mark.the-variants.{D, G}
+use Rattle.machine.specs.Fractals.{Fractal, timeOf}
+use Rattle.machine.specs.Strokes.{directionOf}
+use Rattle.check_bi.specs.Scan.{candleOf}
 use Rattle.zones.specs.FakeStrokes.{Fake, evenPart, pairs, fakes, fakeDirection, fakeWith, fakeFrom, fakeOf, createFakeBis}
 use Rattle.zones.specs.FakeOfTwo.{fakeOfTwo, fakeCount}
 
@@ -25,7 +25,7 @@ fake-of-two f = by-mark (f .first .mark) (f .first .left) (f .first .mid) (f .fi
 
 -- ---- how many
 
-even-length : {A : Type 0} (l : List A) → length (evenPart l) ≡ length l / 2 * 2
+pub even-length : {A : Type 0} (l : List A) → length (evenPart l) ≡ length l / 2 * 2
 unfolding evenPart
 even-length [] = refl
 even-length (a ∷ []) = refl

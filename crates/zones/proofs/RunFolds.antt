@@ -11,7 +11,7 @@ use lib.Signed.{ltZ}
 use lib.Ieee.{Float}
 use Rattle.arith.specs.Order.{maxOf, minOf}
 use Rattle.bars.specs.Lists as Lists
-use Rattle.strokes.specs.Folds.{greatest, least}
+use Rattle.reports.specs.Folds.{greatest, least}
 use Rattle.zones.specs.declared.Summary.{Summary}
 use Rattle.zones.specs.declared.runs_of_strokes.GrowingRun.{GrowingRun}
 use Rattle.zones.specs.Zones.{highs, lows, gg, dd, lastFrom}

@@ -7,9 +7,9 @@ use lib.Ieee.{Float, lt}
 use Rattle.arith.specs.Order.{maxOf, minOf}
 use Rattle.bars.specs.Lists as Lists
 use Rattle.bars.specs.Lists.{every}
-use Rattle.strokes.specs.declared.Direction.{Direction}
-use Rattle.strokes.specs.declared.Direction.the-variants.{Up, Down}
-use Rattle.strokes.specs.Folds.{greatest, least}
+use Rattle.machine.specs.declared.Direction.{Direction}
+use Rattle.machine.specs.declared.Direction.the-variants.{Up, Down}
+use Rattle.reports.specs.Folds.{greatest, least}
 use Rattle.zones.specs.declared.Summary.{Summary}
 use Rattle.zones.specs.declared.zone_building.GrowingZone.{GrowingZone}
 use Rattle.zones.specs.Zones.{Zone, highs, lows, zg, zd, zz, gg, dd, outside, opens, meetsRange, isValid, zoneWith, lastFrom, zoneOf}

@@ -6,8 +6,8 @@ use lib.ListN.{length}
 use lib.Signed.{ltZ}
 use lib.Dec.{leb, eqb}
 use lib.Ieee.{Float, eq}
-use Rattle.strokes.specs.declared.Direction.{Direction}
-use Rattle.strokes.specs.declared.Direction.the-variants.{Up, Down}
+use Rattle.machine.specs.declared.Direction.{Direction}
+use Rattle.machine.specs.declared.Direction.the-variants.{Up, Down}
 use Rattle.zones.specs.declared.Summary.{Summary}
 use Rattle.zones.specs.Zones.{gg, dd, lastFrom}
 

@@ -7,14 +7,14 @@ use lib.ListN.{length}
 use lib.IntN.{ℤ}
 use Rattle.bars.specs.declared.Bar.{Bar}
 use Rattle.bars.specs.Lists.{All, join}
-use Rattle.strokes.specs.declared.Direction.{Direction}
-use Rattle.strokes.specs.declared.Direction.the-variants.{Up, Down}
-use Rattle.strokes.specs.Fractals.{Fractal, timeOf}
-use Rattle.strokes.specs.Strokes.{Stroke, directionOf}
-use Rattle.strokes.specs.Stand.{Settings}
-use Rattle.strokes.specs.Calls.{calls}
-use Rattle.strokes.specs.KeptStrokes.{LessExtreme, MeetAll}
-use Rattle.strokes.specs.Reached.{Later}
+use Rattle.machine.specs.declared.Direction.{Direction}
+use Rattle.machine.specs.declared.Direction.the-variants.{Up, Down}
+use Rattle.machine.specs.Fractals.{Fractal, timeOf}
+use Rattle.machine.specs.Strokes.{Stroke, directionOf}
+use Rattle.machine.specs.Stand.{Settings}
+use Rattle.machine.specs.Calls.{calls}
+use Rattle.machine.specs.KeptStrokes.{LessExtreme, MeetAll}
+use Rattle.machine.specs.Reached.{Later}
 use Rattle.zones.specs.declared.Summary.{Summary}
 use Rattle.zones.specs.declared.FakeStroke.{FakeStroke}
 use Rattle.zones.specs.FakeStrokes.{FakesOf, fakes, createFakeBis}

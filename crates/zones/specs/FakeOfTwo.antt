@@ -3,10 +3,10 @@
 use Prim.Native.Nat.{ℕ, _*_, _/_, _-_}
 use lib.Ieee.{Float, binary64, sub}
 use Rattle.arith.specs.Rounding.{roundTo}
-use Rattle.strokes.specs.declared.Mark.{Mark}
-use Rattle.strokes.specs.declared.Mark.the-variants.{D, G}
-use Rattle.strokes.specs.declared.scan.Candle.{Candle}
-use Rattle.strokes.specs.declared.Direction.the-variants.{Up, Down}
+use Rattle.machine.specs.declared.Mark.{Mark}
+use Rattle.machine.specs.declared.Mark.the-variants.{D, G}
+use Rattle.check_bi.specs.declared.scan.Candle.{Candle}
+use Rattle.machine.specs.declared.Direction.the-variants.{Up, Down}
 use Rattle.zones.specs.declared.FakeStroke.{FakeStroke}
 
 -- from a fractal of the mark to the next, with the middle bar of each: up has the second's high and the first's low, down the first's high and the

@@ -7,11 +7,11 @@ use lib.ListN.{length}
 use lib.Dec.{T}
 use lib.Ieee.{Float, binary64, sub}
 use Rattle.arith.specs.Rounding.{roundTo}
-use Rattle.strokes.specs.declared.Mark.{Mark}
-use Rattle.strokes.specs.declared.Mark.the-variants.{D, G}
-use Rattle.strokes.specs.declared.Direction.{Direction}
-use Rattle.strokes.specs.Fractals.{Fractal, timeOf, sameMark}
-use Rattle.strokes.specs.Strokes.{directionOf}
+use Rattle.machine.specs.declared.Mark.{Mark}
+use Rattle.machine.specs.declared.Mark.the-variants.{D, G}
+use Rattle.machine.specs.declared.Direction.{Direction}
+use Rattle.machine.specs.Fractals.{Fractal, timeOf, sameMark}
+use Rattle.machine.specs.Strokes.{directionOf}
 use Rattle.zones.specs.declared.FakeStroke.{FakeStroke}
 
 -- the two fractals of a fake stroke

@@ -7,8 +7,8 @@ use lib.Dec.{eqb}
 use lib.IntN.{negsuc}
 use lib.Ieee.{Float, inf, fin, binary64, lt, add, sub, mul}
 use Rattle.arith.specs.Order.{maxOf, minOf}
-use Rattle.strokes.specs.declared.Direction.{Direction}
-use Rattle.strokes.specs.declared.Direction.the-variants.{Up, Down}
+use Rattle.machine.specs.declared.Direction.{Direction}
+use Rattle.machine.specs.declared.Direction.the-variants.{Up, Down}
 use Rattle.zones.specs.declared.Summary.{Summary}
 use Rattle.zones.specs.declared.zone_building.GrowingZone.{GrowingZone}
 use Rattle.zones.specs.Zones.{Zone, meetsRange}

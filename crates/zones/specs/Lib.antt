@@ -4,7 +4,17 @@ pub mod BisUpDown
 pub mod FakeOfTwo
 pub mod GrowingZone
 pub mod GrowingRun
+pub mod StrokesRead
+pub mod NamedRuns
+pub mod FakeRows
+pub mod ZoneRows
+pub mod ListedFakes
+pub mod ListedZones
+pub mod ZonesRead
 pub mod Cases
 pub mod Marked
 pub mod Runs
 pub mod Claims
+pub mod PortCalls
+pub mod PortClaims
+pub mod BatchCalls

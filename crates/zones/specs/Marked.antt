@@ -15,17 +15,17 @@ use Rattle.bars.specs.declared.gaps.Gap.{Gap}
 use Rattle.bars.specs.declared.gaps.Gap.the-variants as Gaps
 use Rattle.bars.specs.Stores.{rowOf}
 use Rattle.bars.specs.Gaps.{gapsOf}
-use Rattle.strokes.specs.declared.Mark.{Mark}
-use Rattle.strokes.specs.declared.Mark.the-variants.{D, G}
-use Rattle.strokes.specs.declared.Direction.{Direction}
-use Rattle.strokes.specs.declared.Direction.the-variants.{Up, Down}
-use Rattle.strokes.specs.declared.measures.Measures.{Measures}
-use Rattle.strokes.specs.Fractals.{Fractal, checkFx, checkFxs, timeOf}
-use Rattle.strokes.specs.Strokes.{Stroke, directionOf}
-use Rattle.strokes.specs.Stand.{Settings}
-use Rattle.strokes.specs.Feed.{Step}
-use Rattle.strokes.specs.Calls.{calls}
-use Rattle.strokes.specs.Measures.{change, measuresOf}
+use Rattle.machine.specs.declared.Mark.{Mark}
+use Rattle.machine.specs.declared.Mark.the-variants.{D, G}
+use Rattle.machine.specs.declared.Direction.{Direction}
+use Rattle.machine.specs.declared.Direction.the-variants.{Up, Down}
+use Rattle.reports.specs.declared.measures.Measures.{Measures}
+use Rattle.machine.specs.Fractals.{Fractal, checkFx, checkFxs, timeOf}
+use Rattle.machine.specs.Strokes.{Stroke, directionOf}
+use Rattle.machine.specs.Stand.{Settings}
+use Rattle.machine.specs.Feed.{Step}
+use Rattle.machine.specs.Calls.{calls}
+use Rattle.reports.specs.Measures.{change, measuresOf}
 use Rattle.zones.specs.declared.Summary.{Summary}
 use Rattle.zones.specs.declared.FakeStroke.{FakeStroke}
 use Rattle.zones.specs.FakeStrokes.{createFakeBis}

@@ -17,23 +17,23 @@ use Rattle.bars.specs.declared.gaps.Gap.{Gap}
 use Rattle.bars.specs.declared.gaps.Gap.the-variants as Gaps
 use Rattle.bars.specs.Stores.{rowOf}
 use Rattle.bars.specs.Gaps.{gapsOf}
-use Rattle.strokes.specs.declared.Mark.{Mark}
-use Rattle.strokes.specs.declared.Mark.the-variants.{D, G}
-use Rattle.strokes.specs.declared.Direction.{Direction}
-use Rattle.strokes.specs.declared.Direction.the-variants.{Up, Down}
-use Rattle.strokes.specs.declared.measures.Measures.{Measures}
-use Rattle.strokes.specs.declared.fractal_answers.Strength.{Strength}
-use Rattle.strokes.specs.declared.fractal_answers.Strength.the-variants.{Strong, Medium, Weak}
-use Rattle.strokes.specs.declared.fractal_answers.FractalAnswers.{FractalAnswers}
-use Rattle.strokes.specs.Fractals.{Fractal, timeOf, fxOf, checkFxs}
-use Rattle.strokes.specs.Strokes.{Stroke, directionOf}
-use Rattle.strokes.specs.Stand.{Settings, State, fresh}
-use Rattle.strokes.specs.Feed.{Step}
-use Rattle.strokes.specs.Calls.{FeedAnswer, feed, calls}
-use Rattle.strokes.specs.Measures.{measuresOf, getRawBars}
-use Rattle.strokes.specs.FractalAnswers.{answersOf}
-use Rattle.strokes.specs.FractalList.{getFxList, getFinishedBis, lastBiExtend}
-use Rattle.strokes.specs.Unfinished.{Ubi, getUbi}
+use Rattle.machine.specs.declared.Mark.{Mark}
+use Rattle.machine.specs.declared.Mark.the-variants.{D, G}
+use Rattle.machine.specs.declared.Direction.{Direction}
+use Rattle.machine.specs.declared.Direction.the-variants.{Up, Down}
+use Rattle.reports.specs.declared.measures.Measures.{Measures}
+use Rattle.reports.specs.declared.fractal_answers.Strength.{Strength}
+use Rattle.reports.specs.declared.fractal_answers.Strength.the-variants.{Strong, Medium, Weak}
+use Rattle.reports.specs.declared.fractal_answers.FractalAnswers.{FractalAnswers}
+use Rattle.machine.specs.Fractals.{Fractal, timeOf, fxOf, checkFxs}
+use Rattle.machine.specs.Strokes.{Stroke, directionOf}
+use Rattle.machine.specs.Stand.{Settings, State, fresh}
+use Rattle.machine.specs.Feed.{Step}
+use Rattle.machine.specs.Calls.{FeedAnswer, feed, calls}
+use Rattle.reports.specs.Measures.{measuresOf, getRawBars}
+use Rattle.reports.specs.FractalAnswers.{answersOf}
+use Rattle.reports.specs.FractalList.{getFxList, getFinishedBis, lastBiExtend}
+use Rattle.reports.specs.Unfinished.{Ubi, getUbi}
 use Rattle.zones.specs.declared.Summary.{Summary}
 use Rattle.zones.specs.declared.FakeStroke.{FakeStroke}
 use Rattle.zones.specs.FakeStrokes.{createFakeBis}

@@ -6,12 +6,12 @@ use lib.ListN.{take}
 use lib.IntN.{ℤ, pos, negsuc}
 use lib.Ieee.{Float, inf, fin, binary64, lt, le, add, sub, mul}
 use Rattle.bars.specs.Lists.{every}
-use Rattle.strokes.specs.declared.Direction.{Direction}
-use Rattle.strokes.specs.declared.Direction.the-variants.{Up, Down}
-use Rattle.strokes.specs.Fractals.{timeOf}
-use Rattle.strokes.specs.Strokes.{Stroke, directionOf}
-use Rattle.strokes.specs.Folds.{greatest, least}
-use Rattle.strokes.specs.Break.{highOf, lowOf}
+use Rattle.machine.specs.declared.Direction.{Direction}
+use Rattle.machine.specs.declared.Direction.the-variants.{Up, Down}
+use Rattle.machine.specs.Fractals.{timeOf}
+use Rattle.machine.specs.Strokes.{Stroke, directionOf}
+use Rattle.reports.specs.Folds.{greatest, least}
+use Rattle.machine.specs.Break.{highOf, lowOf}
 use Rattle.zones.specs.declared.Summary.{Summary}
 
 -- what a zone reads of a stroke

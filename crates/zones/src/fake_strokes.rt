@@ -3,9 +3,9 @@
 ghost use mathlib.Core.Path.{_≡_};
 ghost use Rattle.zones.specs.FakeOfTwo.{fakeOfTwo, fakeCount};
 use crate::FakeStroke;
-use strokes::Candle;
-use strokes::Direction;
-use strokes::Mark;
+use check_bi::Candle;
+use machine::Direction;
+use machine::Mark;
 
 // How many fake strokes a list of n fractals has: an odd list loses its last, then each neighbouring
 // pair.

@@ -1,13 +1,34 @@
-// Fake strokes, zones, and what is told of runs of strokes.
+// Fake strokes, zones, what is told of runs of strokes, and the batch call.
+mod batch;
 mod fake_strokes;
+mod fake_writing;
+mod feed;
+mod lent_zone;
+mod named_runs;
+mod reading;
 mod runs_of_strokes;
 mod zone_building;
+mod zone_writing;
 
+pub use batch::BatchAnswer;
+pub use batch::feed_all;
 pub use fake_strokes::fake_count;
 pub use fake_strokes::fake_stroke;
+pub use fake_writing::FakesAnswer;
+pub use fake_writing::create_fake_bis;
+pub use feed::Czsc;
+pub use feed::FeedAnswer;
+pub use lent_zone::join_all;
+pub use lent_zone::join_in_place;
+use machine::Direction;
+pub use named_runs::RunAnswer;
+pub use named_runs::is_bis_down;
+pub use named_runs::is_bis_up;
 pub use runs_of_strokes::GrowingRun;
-use strokes::Direction;
 pub use zone_building::GrowingZone;
+pub use zone_writing::Building;
+pub use zone_writing::ZonesAnswer;
+pub use zone_writing::get_zs_seq;
 
 // What a zone reads of a stroke, a BI of the source: its direction, get_high, get_low, and the times
 // of its start and its end fractal.

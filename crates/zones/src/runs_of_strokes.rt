@@ -5,7 +5,7 @@ ghost use lib.Signed.{ltZ};
 ghost use Rattle.zones.specs.BisUpDown.{goesUp, goesDown};
 ghost use Rattle.zones.specs.GrowingRun.{begun, inOrderWith, threeWith, moreOf, isRunOf, upOf, downOf};
 use crate::Summary;
-use strokes::Direction;
+use machine::Direction;
 
 // `odd` is whether the number of strokes is odd, `three` whether it is at least 3, and `in_order`
 // whether the end times rise strictly.

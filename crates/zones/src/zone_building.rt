@@ -5,7 +5,7 @@ ghost use mathlib.Core.Bool.{_&&_};
 ghost use Rattle.zones.specs.Zones.{within, meetsRange};
 ghost use Rattle.zones.specs.GrowingZone.{started, joinedEarly, joinedLater, joinedOf, opensOf, zzOf, firstMeet, validOf};
 use crate::Summary;
-use strokes::Direction;
+use machine::Direction;
 
 // `few` is 1, 2, or 3 for three strokes and more. zg and zd are of the first three strokes, so they
 // stand still after the third; is_valid asks all strokes against them. So the first three are kept,

@@ -1,0 +1,96 @@
+-- Runs of strokes that are walked stroke by stroke off the rows.
+-- Assumes nothing.
+use Prim.Native.Nat.{ℕ, zero, suc, _+_, _-_, _*_, _/_, _≤_, _<_}
+use native.Mathlib.Omega.{arith}
+use mathlib.Core.Path.{_≡_, refl, ap, sym, _∙_, subst}
+use mathlib.Core.Bool.{Bool, true, false, not, _&&_}
+use mathlib.Core.List.{List, [], _∷_, foldl}
+use lib.ListN.{take, getD}
+use lib.Dec.{T, leb, leb→le, nleb→lt, le→leb, not-T}
+use Rattle.strokes.specs.declared.Stand.{Stand}
+use Rattle.machine.specs.declared.Mark.{Mark}
+use Rattle.check_bi.specs.declared.scan.Candle.{Candle}
+use Rattle.strokes.specs.Stored.{FractalStore, total}
+use Rattle.strokes.specs.StrokeStore.{rowMark}
+use Rattle.zones.specs.declared.Summary.{Summary}
+use Rattle.zones.specs.declared.runs_of_strokes.GrowingRun.{GrowingRun}
+use Rattle.zones.specs.BisUpDown.{isBisUp, isBisDown}
+use Rattle.zones.specs.GrowingRun.{begun, moreOf, runOf, upOf, downOf}
+use Rattle.zones.specs.StrokesRead.{strokePlace, fractalNumber, endRow, markAt, middleAt, summaryFrom, summaryAt, itemsFrom, readRun, StrokeStands, RunStands}
+use Rattle.zones.proofs.RunFolds.{up-grown, down-grown}
+use Rattle.zones.proofs.StrokesReadLaws.{run-first}
+
+-- a stroke that the code has read
+pub summary-done : (s : Stand) (f : FractalStore) (i place e : ℕ) (m : Mark) (a z : Candle) (r : Summary)
+    → place ≡ total (take i (s .bars))
+    → e ≡ 2 * (getD (s .fractals) i 0 / 2) - 1
+    → m ≡ rowMark (getD (f .prices) place [])
+    → a ≡ middleAt f place
+    → z ≡ middleAt f (place + e)
+    → r ≡ summaryFrom m a z
+    → r ≡ summaryAt s f i
+unfolding summaryAt strokePlace fractalNumber endRow markAt
+summary-done s f i place e m a z r ep ee em ea ez er =
+    er ∙ (λ j. summaryFrom (em j) (ea j) (ez j)) ∙ (λ j. summaryFrom (rowMark (getD (f .prices) (ep j) [])) (middleAt f (ep j)) (middleAt f (ep j + ee j)))
+
+module _ (s : Stand) (f : FractalStore) (first count : ℕ) where
+  pub first-stands : 1 ≤ count → RunStands s f first count → StrokeStands s f first
+  first-stands h r = let e : first + 0 ≡ first = omega arith in subst (StrokeStands s f) e (r .each 0 (omega arith))
+
+  pub run-begins : (w : GrowingRun) (a : Summary) → a ≡ summaryAt s f first → w ≡ begun a
+      → foldl moreOf w (readRun s f (first + 1) (count - 1)) ≡ runOf (summaryAt s f first) (readRun s f (first + 1) (count - 1))
+  unfolding runOf
+  run-begins w a e q = ap (λ (x : GrowingRun). foldl moreOf x (readRun s f (first + 1) (count - 1))) (q ∙ ap begun e)
+
+  pub read-none : count ≡ 0 → readRun s f first count ≡ []
+  unfolding readRun itemsFrom
+  read-none e = ap (readRun s f first) e
+
+  pub up-none : count ≡ 0 → false ≡ isBisUp (readRun s f first count)
+  unfolding isBisUp
+  up-none e = sym (ap isBisUp (read-none e))
+
+  pub down-none : count ≡ 0 → false ≡ isBisDown (readRun s f first count)
+  unfolding isBisDown
+  down-none e = sym (ap isBisDown (read-none e))
+
+  pub up-walked : (w : GrowingRun) (r : Bool) → 1 ≤ count → w ≡ runOf (summaryAt s f first) (readRun s f (first + 1) (count - 1)) → r ≡ upOf w → r ≡ isBisUp (readRun s f first count)
+  up-walked w r h e q = q ∙ ap upOf e ∙ up-grown (summaryAt s f first) (readRun s f (first + 1) (count - 1)) ∙ sym (ap isBisUp (run-first s f first count h))
+
+  pub down-walked : (w : GrowingRun) (r : Bool) → 1 ≤ count → w ≡ runOf (summaryAt s f first) (readRun s f (first + 1) (count - 1)) → r ≡ downOf w → r ≡ isBisDown (readRun s f first count)
+  down-walked w r h e q = q ∙ ap downOf e ∙ down-grown (summaryAt s f first) (readRun s f (first + 1) (count - 1)) ∙ sym (ap isBisDown (run-first s f first count h))
+
+-- ---- whether a run exists
+
+test-true : (b : Bool) → T b → b ≡ true
+test-true true h = refl
+test-true false h = absurd h
+
+test-false : (b : Bool) → (T b → ⊥) → b ≡ false
+test-false true h = absurd (h tt)
+test-false false h = refl
+
+same-tests : (a b : Bool) → (T a → T b) → (T b → T a) → a ≡ b
+same-tests true b f g = sym (test-true b (f tt))
+same-tests false b f g = sym (test-false b g)
+
+pub too-long : (first count n : ℕ) → n < count → false ≡ leb (first + count) n
+too-long first count n h = sym (test-false (leb (first + count) n) (λ t. let k = leb→le (first + count) n t in let w : ⊥ = omega arith in w))
+
+pub fits-behind : (first count n : ℕ) → count ≤ n → leb first (n - count) ≡ leb (first + count) n
+fits-behind first count n h =
+    same-tests (leb first (n - count)) (leb (first + count) n)
+    (λ t. let k = leb→le first (n - count) t in le→leb (first + count) n (omega arith))
+    (λ t. let k = leb→le (first + count) n t in le→leb first (n - count) (omega arith))
+
+-- ---- whether three columns have n places
+
+pub fit-first : (n a b c : ℕ) → a < n → false ≡ (leb n a && (leb n b && leb n c))
+fit-first n a b c h = sym (ap (λ (x : Bool). x && (leb n b && leb n c)) (test-false (leb n a) (λ t. let k = leb→le n a t in let w : ⊥ = omega arith in w)))
+
+pub fit-second : (n a b c : ℕ) → n ≤ a → b < n → false ≡ (leb n a && (leb n b && leb n c))
+fit-second n a b c k h =
+    sym (λ i. test-true (leb n a) (le→leb n a k) i && (test-false (leb n b) (λ t. let k = leb→le n b t in let w : ⊥ = omega arith in w) i && leb n c))
+
+pub fit-third : (n a b c : ℕ) → n ≤ a → n ≤ b → leb n c ≡ (leb n a && (leb n b && leb n c))
+fit-third n a b c k h = sym (λ i. test-true (leb n a) (le→leb n a k) i && (test-true (leb n b) (le→leb n b h) i && leb n c))

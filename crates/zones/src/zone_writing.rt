@@ -1,0 +1,325 @@
+// get_zs_seq of a run of kept strokes: its zones are counted, and written to lent columns.
+ghost use mathlib.Core.Path.{_≡_};
+ghost use mathlib.Core.List.{map};
+ghost use Prim.Native.Nat.{_+_, _<_, _≤_};
+ghost use lib.ListN.{length, set};
+ghost use Rattle.bars.specs.Stores.{rawStore, mergedStore};
+ghost use Rattle.sound.specs.SoundStand.{storesOf};
+ghost use Rattle.zones.specs.ListedZones.{zonesFit, strokesFit, zonesIf, zonesCall, listedZones};
+ghost use Rattle.strokes.specs.Stored.{fractalStore};
+ghost use Rattle.zones.specs.Zones.{zones, getZsSeq};
+ghost use Rattle.zones.specs.GrowingZone.{opensOf};
+ghost use Rattle.zones.specs.StrokesRead.{readRun, RunStands};
+ghost use Rattle.zones.specs.FakeRows.{directionCode};
+ghost use Rattle.zones.specs.ZoneRows.{flag, buildingOf, nextOf, setZone, setIf, zoneColumns, putZones, RoomZones, strokeTimes, strokePrices, strokeCode, strokeColumns, putStrokes, RoomStrokes};
+use super::fake_writing::direction_code;
+use super::fake_writing::fits;
+use super::named_runs::run_failed;
+use super::reading::summary_at;
+use crate::GrowingZone;
+use crate::Summary;
+use machine::Direction;
+use strokes::Stand;
+
+// The zone under construction, how many strokes it has, and how many zones are done.
+pub struct Building {
+    pub zone: GrowingZone,
+    pub size: usize,
+    pub done: usize,
+}
+
+// The number of the question that was answered no, or 0, and how many zones and strokes are listed.
+pub struct ZonesAnswer {
+    pub failed: u64,
+    pub zones: usize,
+    pub strokes: usize,
+}
+
+// 0 for up, 1 for down.
+fn direction_number(d: Direction) -> usize
+    ensures { λ r. ⌜ r ≡ directionCode d ⌝ }
+{
+    match d {
+        Direction::Up => 0,
+        Direction::Down => 1,
+    }
+}
+
+fn flag_of(b: bool) -> usize
+    ensures { λ r. ⌜ r ≡ flag b ⌝ }
+{
+    if b {
+        return 1;
+    }
+    0
+}
+
+fn begin(s: Summary) -> Building
+    ensures { λ r. ⌜ r ≡ buildingOf s ⌝ }
+{
+    let zone = GrowingZone::start(s);
+    Building {
+        zone: zone,
+        size: 1,
+        done: 0,
+    }
+}
+
+// With one stroke more: it joins the zone, or opens the next.
+fn next(b: Building, s: Summary) -> Building
+    requires { ⌜ b .size + b .done < 65536 ⌝ }
+    ensures { λ r. ⌜ r ≡ nextOf b s ⌝ }
+{
+    let zone = b.zone;
+    let size = b.size;
+    let done = b.done;
+    if zone.opens(s) {
+        let opened = GrowingZone::start(s);
+        return Building {
+            zone: opened,
+            size: 1,
+            done: done + 1,
+        };
+    }
+    let joined = zone.joined(s);
+    Building {
+        zone: joined,
+        size: size + 1,
+        done: done,
+    }
+}
+
+// How many zones the run has.
+pub fn count_zones(
+    stand: Stand,
+    fs: &[[i64; 6]],
+    fp: &[[f64; 18]],
+    first: usize,
+    count: usize,
+) -> usize
+    requires { ⌜ RunStands stand (fractalStore (now fs) (now fp)) first count ⌝ }
+    ensures { λ r. ⌜ r ≡ length (zones (readRun stand (fractalStore (now (fs .entry)) (now (fp .entry))) first count)) ⌝ }
+{
+    if count == 0 {
+        return 0;
+    }
+    let a = summary_at(stand, fs, fp, first);
+    let mut b = begin(a);
+    let mut j: usize = 1;
+    while j < count {
+        let i = first + j;
+        let s = summary_at(stand, fs, fp, i);
+        b = next(b, s);
+        j += 1;
+    }
+    b.done + 1
+}
+
+// The rows of the zone under construction, after those of the zones that are done.
+fn write_zone(b: Building, zt: &mut [[i64; 2]], zp: &mut [[f64; 5]], zn: &mut [[usize; 4]])
+    requires { ⌜ RoomZones (zoneColumns (now zt) (now zp) (now zn)) (b .done + 1) ⌝ }
+    ensures { λ _. ⌜ zoneColumns (now (zt .exit)) (now (zp .exit)) (now (zn .exit)) ≡ setZone (zoneColumns (now (zt .entry)) (now (zp .entry)) (now (zn .entry))) b ⌝ }
+{
+    let zone = b.zone;
+    let first = zone.first;
+    let last = zone.last;
+    let t = first.began;
+    let u = last.ended;
+    let v = first.direction;
+    let w = last.direction;
+    let middle = zone.zz();
+    let valid = zone.is_valid();
+    let k = direction_number(v);
+    let l = direction_number(w);
+    let f = flag_of(valid);
+    let at = b.done;
+    let n = b.size;
+    zt[at] = [t, u];
+    zp[at] = [zone.zg, zone.zd, middle, zone.gg, zone.dd];
+    zn[at] = [k, l, f, n];
+}
+
+// The zone so far, where s opens the next.
+fn write_done(
+    b: Building,
+    s: Summary,
+    zt: &mut [[i64; 2]],
+    zp: &mut [[f64; 5]],
+    zn: &mut [[usize; 4]],
+)
+    requires { ⌜ RoomZones (zoneColumns (now zt) (now zp) (now zn)) (b .done + 1) ⌝ }
+    ensures { λ _. ⌜ zoneColumns (now (zt .exit)) (now (zp .exit)) (now (zn .exit)) ≡ setIf (opensOf (b .zone) s) (zoneColumns (now (zt .entry)) (now (zp .entry)) (now (zn .entry))) b ⌝ }
+{
+    let zone = b.zone;
+    if zone.opens(s) {
+        write_zone(b, zt, zp, zn);
+        return;
+    }
+}
+
+// The run's zones.
+pub fn write_zones(
+    stand: Stand,
+    fs: &[[i64; 6]],
+    fp: &[[f64; 18]],
+    first: usize,
+    count: usize,
+    zt: &mut [[i64; 2]],
+    zp: &mut [[f64; 5]],
+    zn: &mut [[usize; 4]],
+)
+    requires { ⌜ RunStands stand (fractalStore (now fs) (now fp)) first count ⌝ ∗ ⌜ RoomZones (zoneColumns (now zt) (now zp) (now zn)) (length (zones (readRun stand (fractalStore (now fs) (now fp)) first count))) ⌝ }
+    ensures { λ _. ⌜ zoneColumns (now (zt .exit)) (now (zp .exit)) (now (zn .exit)) ≡ putZones (zoneColumns (now (zt .entry)) (now (zp .entry)) (now (zn .entry))) (getZsSeq (readRun stand (fractalStore (now (fs .entry)) (now (fp .entry))) first count)) ⌝ }
+{
+    if count == 0 {
+        return;
+    }
+    let a = summary_at(stand, fs, fp, first);
+    let mut b = begin(a);
+    let mut j: usize = 1;
+    while j < count {
+        let i = first + j;
+        let s = summary_at(stand, fs, fp, i);
+        write_done(b, s, zt, zp, zn);
+        b = next(b, s);
+        j += 1;
+    }
+    write_zone(b, zt, zp, zn);
+}
+
+// The rows of a stroke.
+fn write_stroke(s: Summary, bt: &mut [[i64; 2]], bp: &mut [[f64; 2]], bd: &mut [u8], at: usize)
+    requires { ⌜ RoomStrokes (strokeColumns (now bt) (now bp) (now bd)) (at + 1) ⌝ }
+    ensures { λ _. ⌜ strokeColumns (now (bt .exit)) (now (bp .exit)) (now (bd .exit)) ≡ strokeColumns (set (now (bt .entry)) at (strokeTimes s)) (set (now (bp .entry)) at (strokePrices s)) (set (now (bd .entry)) at (strokeCode s)) ⌝ }
+{
+    let d = s.direction;
+    let code = direction_code(d);
+    let t = s.began;
+    let u = s.ended;
+    bt[at] = [t, u];
+    bp[at] = [s.high, s.low];
+    bd[at] = code;
+}
+
+// The run's strokes.
+pub fn write_strokes(
+    stand: Stand,
+    fs: &[[i64; 6]],
+    fp: &[[f64; 18]],
+    first: usize,
+    count: usize,
+    bt: &mut [[i64; 2]],
+    bp: &mut [[f64; 2]],
+    bd: &mut [u8],
+)
+    requires { ⌜ RunStands stand (fractalStore (now fs) (now fp)) first count ⌝ ∗ ⌜ RoomStrokes (strokeColumns (now bt) (now bp) (now bd)) count ⌝ }
+    ensures { λ _. ⌜ strokeColumns (now (bt .exit)) (now (bp .exit)) (now (bd .exit)) ≡ putStrokes (strokeColumns (now (bt .entry)) (now (bp .entry)) (now (bd .entry))) (readRun stand (fractalStore (now (fs .entry)) (now (fp .entry))) first count) ⌝ }
+{
+    let mut j: usize = 0;
+    while j < count {
+        let i = first + j;
+        let s = summary_at(stand, fs, fp, i);
+        write_stroke(s, bt, bp, bd, j);
+        j += 1;
+    }
+}
+
+// Question 14, then the run's zones and strokes.
+fn list_zones(
+    stand: Stand,
+    fs: &[[i64; 6]],
+    fp: &[[f64; 18]],
+    first: usize,
+    count: usize,
+    zt: &mut [[i64; 2]],
+    zp: &mut [[f64; 5]],
+    zn: &mut [[usize; 4]],
+    bt: &mut [[i64; 2]],
+    bp: &mut [[f64; 2]],
+    bd: &mut [u8],
+) -> ZonesAnswer
+    requires { ⌜ RunStands stand (fractalStore (now fs) (now fp)) first count ⌝ }
+    ensures { λ r. ⌜ zonesCall (r .failed) (r .zones) (r .strokes) (zoneColumns (now (zt .exit)) (now (zp .exit)) (now (zn .exit))) (strokeColumns (now (bt .exit)) (now (bp .exit)) (now (bd .exit))) ≡ zonesIf (zonesFit (zoneColumns (now (zt .entry)) (now (zp .entry)) (now (zn .entry))) (getZsSeq (readRun stand (fractalStore (now (fs .entry)) (now (fp .entry))) first count))) (strokesFit (strokeColumns (now (bt .entry)) (now (bp .entry)) (now (bd .entry))) (readRun stand (fractalStore (now (fs .entry)) (now (fp .entry))) first count)) (zoneColumns (now (zt .entry)) (now (zp .entry)) (now (zn .entry))) (strokeColumns (now (bt .entry)) (now (bp .entry)) (now (bd .entry))) (readRun stand (fractalStore (now (fs .entry)) (now (fp .entry))) first count) ⌝ }
+{
+    let n = count_zones(stand, fs, fp, first, count);
+    if !fits(n, zt.len(), zp.len(), zn.len()) {
+        return ZonesAnswer {
+            failed: 14,
+            zones: 0,
+            strokes: 0,
+        };
+    }
+    if !fits(count, bt.len(), bp.len(), bd.len()) {
+        return ZonesAnswer {
+            failed: 14,
+            zones: 0,
+            strokes: 0,
+        };
+    }
+    write_zones(stand, fs, fp, first, count, zt, zp, zn);
+    write_strokes(stand, fs, fp, first, count, bt, bp, bd);
+    ZonesAnswer {
+        failed: 0,
+        zones: n,
+        strokes: count,
+    }
+}
+
+// get_zs_seq of a run of kept strokes.
+pub fn get_zs_seq(
+    stand: Stand,
+    rt: &[i64],
+    ri: &[i32],
+    rp: &[[f64; 6]],
+    ut: &[i64],
+    ui: &[i32],
+    up: &[[f64; 6]],
+    uc: &[usize],
+    ue: &[[i64; 101]],
+    st: &[i64],
+    si: &[i32],
+    sp: &[[f64; 6]],
+    sc: &[usize],
+    se: &[[i64; 101]],
+    fs: &[[i64; 6]],
+    fp: &[[f64; 18]],
+    first: usize,
+    count: usize,
+    zt: &mut [[i64; 2]],
+    zp: &mut [[f64; 5]],
+    zn: &mut [[usize; 4]],
+    bt: &mut [[i64; 2]],
+    bp: &mut [[f64; 2]],
+    bd: &mut [u8],
+) -> ZonesAnswer
+    ensures { λ r. ⌜ zonesCall (r .failed) (r .zones) (r .strokes) (zoneColumns (now (zt .exit)) (now (zp .exit)) (now (zn .exit))) (strokeColumns (now (bt .exit)) (now (bp .exit)) (now (bd .exit))) ≡ listedZones stand (storesOf (rawStore (now (rt .entry)) (now (ri .entry)) (now (rp .entry))) (mergedStore (now (ut .entry)) (now (ui .entry)) (now (up .entry)) (now (uc .entry)) (now (ue .entry))) (mergedStore (now (st .entry)) (now (si .entry)) (now (sp .entry)) (now (sc .entry)) (now (se .entry))) (fractalStore (now (fs .entry)) (now (fp .entry)))) first count (zoneColumns (now (zt .entry)) (now (zp .entry)) (now (zn .entry))) (strokeColumns (now (bt .entry)) (now (bp .entry)) (now (bd .entry))) ⌝ }
+{
+    let failed = run_failed(
+        stand,
+        rt,
+        ri,
+        rp,
+        ut,
+        ui,
+        up,
+        uc,
+        ue,
+        st,
+        si,
+        sp,
+        sc,
+        se,
+        fs,
+        fp,
+        first,
+        count,
+    );
+    if failed == 0 {
+        return list_zones(stand, fs, fp, first, count, zt, zp, zn, bt, bp, bd);
+    }
+    ZonesAnswer {
+        failed: failed,
+        zones: 0,
+        strokes: 0,
+    }
+}
