@@ -1,6 +1,10 @@
 // A line's question and its answer.
-use crate::input::Read;
-use crate::input::bar_at;
+use bar_lines::Read;
+use bar_lines::bar_at;
+use bar_lines::flag;
+use bar_lines::show_bar;
+use bar_lines::space;
+use bar_lines::spaced_float;
 use bars::Bar;
 use bars::Gap;
 use bars::GapAnswer;
@@ -9,35 +13,6 @@ use libc::STDOUT_FILENO;
 
 pub fn bad() {
     io::write_all(STDOUT_FILENO, b"bad line\n");
-}
-
-fn space() {
-    io::write_all(STDOUT_FILENO, b" ");
-}
-
-fn flag(yes: bool) {
-    if yes {
-        io::write_all(STDOUT_FILENO, b"1");
-    } else {
-        io::write_all(STDOUT_FILENO, b"0");
-    }
-}
-
-fn spaced_float(x: f64) {
-    space();
-    lines::show(x);
-}
-
-fn show_bar(b: Bar) {
-    lines::write_whole(b.time);
-    space();
-    lines::write_small(b.id);
-    spaced_float(b.open);
-    spaced_float(b.close);
-    spaced_float(b.high);
-    spaced_float(b.low);
-    spaced_float(b.vol);
-    spaced_float(b.amount);
 }
 
 fn show_elements(k: NewBar) {

@@ -7,7 +7,6 @@
 //
 // The questions were made by the oracle's driver, and the answers are those of the Rust.
 mod answers;
-mod input;
 
 use libc::STDIN_FILENO;
 

@@ -1,6 +1,7 @@
 // Lines of words, for the programs that answer them: floats by their bits, whole numbers, and where
 // a word ends.
 mod floats;
+mod input;
 mod numbers;
 mod words;
 
@@ -8,6 +9,9 @@ pub use floats::Bits;
 pub use floats::bits_of;
 pub use floats::float_of;
 pub use floats::show;
+pub use input::Cursor;
+pub use input::first_line;
+pub use input::next_line;
 pub use numbers::Small;
 pub use numbers::Whole;
 pub use numbers::is_word;

@@ -9,7 +9,7 @@ use lines::is;
 use lines::name_len;
 use lines::show;
 use lines::show_whole;
-use strokes::Direction;
+use machine::Direction;
 use zones::FakeStroke;
 use zones::GrowingRun;
 use zones::GrowingZone;

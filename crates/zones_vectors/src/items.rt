@@ -1,12 +1,12 @@
 // Strokes and fractals read from a line.
+use check_bi::Candle;
 use lines::Bits;
 use lines::WholeAt;
 use lines::float_of;
 use lines::value_at;
 use lines::whole_at;
-use strokes::Candle;
-use strokes::Direction;
-use strokes::Mark;
+use machine::Direction;
+use machine::Mark;
 use zones::Summary;
 
 // A stroke and the place behind it.

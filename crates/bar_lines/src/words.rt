@@ -1,4 +1,4 @@
-// A line's words, read from a place on.
+// The words of a line, read from a place on, up to whole bars.
 ghost use Prim.Native.Nat.{_≤_};
 ghost use lib.ListN.{length};
 use bars::Bar;

@@ -1,0 +1,78 @@
+// Lines from standard input, one at a time.
+use libc::STDIN_FILENO;
+
+// Where the reading stands: the next byte and the number of bytes read into the buffer; of the line, how many bytes are kept and whether
+// it had more; whether the line goes on, and whether the input may.
+pub struct Cursor {
+    pub at: usize,
+    pub filled: usize,
+    pub len: usize,
+    pub long: bool,
+    pub going: bool,
+    pub open: bool,
+}
+
+pub fn first_line() -> Cursor {
+    Cursor {
+        at: 0,
+        filled: 0,
+        len: 0,
+        long: false,
+        going: false,
+        open: true,
+    }
+}
+
+// The byte b of the line, before place `at`; a line feed ends it.
+fn take(text: &mut [u8], c: Cursor, b: u8, at: usize) -> Cursor {
+    let mut next = c;
+    let len = c.len;
+    next.at = at;
+    if b == b'\n' {
+        next.going = false;
+        return next;
+    }
+    if len < text.len() {
+        text[len] = b;
+        next.len = len + 1;
+        return next;
+    }
+    next.long = true;
+    next
+}
+
+// One byte more, or, where the buffer is used up, the next bytes of the input.
+fn step(bytes: &mut [u8], text: &mut [u8], c: Cursor) -> Cursor {
+    let at = c.at;
+    if at < c.filled {
+        if at < bytes.len() {
+            let b = bytes[at];
+            return take(text, c, b, at + 1);
+        }
+    }
+    let n = io::read_full(STDIN_FILENO, bytes);
+    let mut next = c;
+    next.at = 0;
+    next.filled = n;
+    if n == 0 {
+        next.going = false;
+        next.open = false;
+        return next;
+    }
+    next
+}
+
+// The next line, as much of it as `text` holds. A proved loop has to end, and nothing says that a line does. So it counts down from a
+// number that no run uses up.
+pub fn next_line(bytes: &mut [u8], text: &mut [u8], c: Cursor) -> Cursor {
+    let mut now = c;
+    now.len = 0;
+    now.long = false;
+    now.going = true;
+    let mut turns = u64::MAX;
+    while turns > 0 && now.going {
+        now = step(bytes, text, now);
+        turns -= 1;
+    }
+    now
+}
