@@ -15,9 +15,8 @@ use Rattle.bars.specs.declared.gaps.Gap.{Gap}
 use Rattle.bars.specs.declared.gaps.Gap.the-variants.{NoGap, Up, Down}
 use Rattle.bars.specs.declared.gaps.GapAnswer.{GapAnswer}
 use Rattle.bars.specs.declared.gaps.GapAnswer.the-variants.{Pair, Missing}
-use Rattle.bars.specs.Lists.{some-of}
+use Rattle.bars.specs.Lists.{some-of, copied}
 use Rattle.bars.specs.Gaps.{highOf, lowOf, ratioOf, coversUp, coversDown, gapIf, gapOf, gapsOf, pairIf, gapAt, unlessShort, gapAmong, GapColumns, gapsListed, written, listIf, listGaps}
-use Rattle.bars.specs.Stores.{copied}
 use Rattle.bars.proofs.Moves.{copy-turn}
 
 -- ---- a scan of the first n from a place on

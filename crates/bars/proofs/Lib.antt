@@ -3,10 +3,4 @@ pub mod Including
 pub mod MergedLists
 pub mod MergedBars
 pub mod GapPairs
-pub mod TailMerging
 pub mod Moves
-pub mod Columns
-pub mod Searching
-pub mod KeptBars
-pub mod AgainBound
-pub mod TailRuns

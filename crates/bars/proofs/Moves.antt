@@ -9,7 +9,7 @@ use native.Mathlib.Omega.{arith}
 use lib.ListN.{length, take, drop, getD, set, length-drop, List·getD-append, drop-of-length-le}
 use lib.Seq.{paste-zero, paste-suc, length-paste-head, length-paste, take-paste, drop-paste, drop-drop, take-all, take-nil}
 use lib.Seq.{drop-cons, set-append-left, take-set-lt, take-suc-set, append-snoc, length-take-le, getD-append-add, getD-drop, getD-take}
-use Rattle.bars.specs.Stores.{copied}
+use Rattle.bars.specs.Lists.{copied}
 
 module _ {A : Type 0} where
   -- ---- what a copy of n rows reads as

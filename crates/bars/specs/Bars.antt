@@ -2,6 +2,7 @@
 use mathlib.Core.List.{List, [], _∷_}
 use lib.ListN.{take}
 use lib.IntN.{ℤ}
+use lib.Ieee.{Float}
 use Rattle.bars.specs.declared.Bar.{Bar}
 use Rattle.bars.specs.declared.NewBar.{NewBar}
 
@@ -17,3 +18,7 @@ mergedOf k = record { bar = k .bar; elements = take (k .count) (k .elements) }
 -- a raw bar as a merged bar of its own
 unfoldable pub own : Bar → Merged
 own b = record { bar = b; elements = b .time ∷ [] }
+
+-- a bar's row of prices
+unfoldable pub rowOf : Bar → List Float
+rowOf b = b .«open» ∷ b .close ∷ b .high ∷ b .low ∷ b .vol ∷ b .amount ∷ []

@@ -11,8 +11,7 @@ use Rattle.bars.specs.declared.gaps.Gap.{Gap}
 use Rattle.bars.specs.declared.gaps.Gap.the-variants.{NoGap, Up, Down}
 use Rattle.bars.specs.declared.gaps.GapAnswer.{GapAnswer}
 use Rattle.bars.specs.declared.gaps.GapAnswer.the-variants.{Pair, Missing}
-use Rattle.bars.specs.Lists.{some-of}
-use Rattle.bars.specs.Stores.{copied}
+use Rattle.bars.specs.Lists.{some-of, copied}
 
 -- ---- one pair
 

@@ -4,7 +4,4 @@ pub mod Questions
 pub mod Merging
 pub mod MergedBars
 pub mod Gaps
-pub mod Stores
-pub mod TailRows
 pub mod Cases
-pub mod StoreCases

@@ -1,7 +1,9 @@
 -- Functions of lists that the library lacks. Lists are oldest first. Definitions only.
+use Prim.Native.Nat.{ℕ, _+_}
 use mathlib.Core.Bool.{Bool, true, false, _&&_, _||_, cond}
 use mathlib.Core.List.{List, [], _∷_, _++_}
 use mathlib.Core.Option.{Option, none, some}
+use lib.ListN.{take, drop}
 
 -- the elements that pass
 unfoldable pub keepIf : {A : Type 0} → (A → Bool) → List A → List A
@@ -32,6 +34,10 @@ init (a ∷ b ∷ l) = a ∷ init (b ∷ l)
 unfoldable pub join : {A : Type 0} → List (List A) → List A
 join [] = []
 join (a ∷ l) = a ++ join l
+
+-- d with its n rows from place `at` on replaced by the n rows of s from place `from` on; all other rows of d stay
+unfoldable pub copied : {A : Type 0} → List A → ℕ → List A → ℕ → ℕ → List A
+copied d at s from n = take at d ++ take n (drop from s) ++ drop (at + n) d
 
 -- whether each element passes
 unfoldable pub every : {A : Type 0} → (A → Bool) → List A → Bool

@@ -1,10 +1,7 @@
-// Bars, the stores that hold them, questions 5 to 9, merging and gaps.
+// Bars, questions 5 to 9, merging and gaps.
 mod gaps;
 mod merging;
 mod questions;
-mod rows;
-mod stores;
-mod tails;
 
 pub use gaps::Gap;
 pub use gaps::GapAnswer;
@@ -21,22 +18,6 @@ pub use questions::question_after;
 pub use questions::question_of_bar;
 pub use questions::time_in_range;
 pub use questions::volumes_in_range;
-pub use stores::copy_bars;
-pub use stores::copy_new_bars;
-pub use stores::find_time;
-pub use stores::join_bars;
-pub use stores::join_new_bars;
-pub use stores::move_bars_down;
-pub use stores::move_bars_up;
-pub use stores::move_new_bars;
-pub use stores::move_new_bars_down;
-pub use stores::move_new_bars_up;
-pub use stores::read_bar;
-pub use stores::read_new_bar;
-pub use stores::write_bar;
-pub use stores::write_new_bar;
-pub use tails::merge_into_tail;
-pub use tails::merge_run_into_tail;
 
 // RawBar of the source: one bar as it is fed. Time is in seconds.
 pub struct Bar {

@@ -1,0 +1,3 @@
+pub mod Stores
+pub mod TailRows
+pub mod StoreCases

@@ -1,0 +1,300 @@
+// The lent stores of raw bars and of merged bars. A store is one slice for each column, and a place is
+// a row: what stands at it in every column. What a function is not said to change stays as it was,
+// also beyond the count of the bars that are kept.
+ghost use mathlib.Core.Path.{_≡_};
+ghost use Prim.Native.Nat.{_+_, _≤_};
+ghost use lib.ListN.{length, take};
+ghost use lib.Dec.{T};
+ghost use Rattle.stores.specs.Stores.{rawStore, mergedStore, RoomRaw, RoomMerged, barAt, newBarAt, setBar, setNewBar, copiedRaw, copiedMerged, MovedToStart, rising, placeOf};
+use super::rows;
+use bars::Bar;
+use bars::NewBar;
+
+// ---- one bar
+
+pub fn read_bar(times: &[i64], ids: &[i32], prices: &[[f64; 6]], at: usize) -> Bar
+    requires { ⌜ RoomRaw (rawStore (now times) (now ids) (now prices)) (at + 1) ⌝ }
+    ensures { λ r. ⌜ r ≡ barAt (rawStore (now (times .entry)) (now (ids .entry)) (now (prices .entry))) at ⌝ }
+{
+    let time = times[at];
+    let id = ids[at];
+    let p = prices[at];
+    Bar {
+        time,
+        id,
+        open: p[0],
+        close: p[1],
+        high: p[2],
+        low: p[3],
+        vol: p[4],
+        amount: p[5],
+    }
+}
+
+// A bar is appended to the first n by writing it at place n.
+pub fn write_bar(times: &mut [i64], ids: &mut [i32], prices: &mut [[f64; 6]], at: usize, b: Bar)
+    requires { ⌜ RoomRaw (rawStore (now times) (now ids) (now prices)) (at + 1) ⌝ }
+    ensures { λ _. ⌜ rawStore (now (times .exit)) (now (ids .exit)) (now (prices .exit)) ≡ setBar (rawStore (now (times .entry)) (now (ids .entry)) (now (prices .entry))) at b ⌝ }
+{
+    let time = b.time;
+    let id = b.id;
+    times[at] = time;
+    ids[at] = id;
+    prices[at] = [b.open, b.close, b.high, b.low, b.vol, b.amount];
+}
+
+pub fn read_new_bar(
+    times: &[i64],
+    ids: &[i32],
+    prices: &[[f64; 6]],
+    counts: &[usize],
+    elements: &[[i64; 101]],
+    at: usize,
+) -> NewBar
+    requires { ⌜ RoomMerged (mergedStore (now times) (now ids) (now prices) (now counts) (now elements)) (at + 1) ⌝ }
+    ensures { λ r. ⌜ r ≡ newBarAt (mergedStore (now (times .entry)) (now (ids .entry)) (now (prices .entry)) (now (counts .entry)) (now (elements .entry))) at ⌝ }
+{
+    let bar = read_bar(times, ids, prices, at);
+    let count = counts[at];
+    let row = elements[at];
+    NewBar {
+        bar,
+        count,
+        elements: row,
+    }
+}
+
+pub fn write_new_bar(
+    times: &mut [i64],
+    ids: &mut [i32],
+    prices: &mut [[f64; 6]],
+    counts: &mut [usize],
+    elements: &mut [[i64; 101]],
+    at: usize,
+    k: NewBar,
+)
+    requires { ⌜ RoomMerged (mergedStore (now times) (now ids) (now prices) (now counts) (now elements)) (at + 1) ⌝ }
+    ensures { λ _. ⌜ mergedStore (now (times .exit)) (now (ids .exit)) (now (prices .exit)) (now (counts .exit)) (now (elements .exit)) ≡ setNewBar (mergedStore (now (times .entry)) (now (ids .entry)) (now (prices .entry)) (now (counts .entry)) (now (elements .entry))) at k ⌝ }
+{
+    let b = k.bar;
+    let count = k.count;
+    let row = k.elements;
+    write_bar(times, ids, prices, at, b);
+    counts[at] = count;
+    elements[at] = row;
+}
+
+// ---- runs of bars. In a copy from one store to another, ts, is, ps, cs, es are the columns of the other.
+
+// The first n bars of another store to the beginning of this one.
+pub fn copy_bars(
+    ts: &[i64],
+    is: &[i32],
+    ps: &[[f64; 6]],
+    times: &mut [i64],
+    ids: &mut [i32],
+    prices: &mut [[f64; 6]],
+    n: usize,
+)
+    requires { ⌜ RoomRaw (rawStore (now ts) (now is) (now ps)) n ⌝ ∗ ⌜ RoomRaw (rawStore (now times) (now ids) (now prices)) n ⌝ }
+    ensures { λ _. ⌜ rawStore (now (times .exit)) (now (ids .exit)) (now (prices .exit)) ≡ copiedRaw (rawStore (now (times .entry)) (now (ids .entry)) (now (prices .entry))) 0 (rawStore (now (ts .entry)) (now (is .entry)) (now (ps .entry))) 0 n ⌝ }
+{
+    rows::copy_times(ts, times, n);
+    rows::copy_ids(is, ids, n);
+    rows::copy_prices(ps, prices, n);
+}
+
+// n bars of another store, from place `from` on, into the part of this store that begins at the joining
+// place `at`: in each column that part is lent to the copier.
+pub fn join_bars(
+    ts: &[i64],
+    is: &[i32],
+    ps: &[[f64; 6]],
+    from: usize,
+    times: &mut [i64],
+    ids: &mut [i32],
+    prices: &mut [[f64; 6]],
+    at: usize,
+    n: usize,
+)
+    requires { ⌜ RoomRaw (rawStore (now ts) (now is) (now ps)) (from + n) ⌝ ∗ ⌜ RoomRaw (rawStore (now times) (now ids) (now prices)) (at + n) ⌝ }
+    ensures { λ _. ⌜ rawStore (now (times .exit)) (now (ids .exit)) (now (prices .exit)) ≡ copiedRaw (rawStore (now (times .entry)) (now (ids .entry)) (now (prices .entry))) at (rawStore (now (ts .entry)) (now (is .entry)) (now (ps .entry))) from n ⌝ }
+{
+    rows::join_times(ts, from, times, at, n);
+    rows::join_ids(is, from, ids, at, n);
+    rows::join_prices(ps, from, prices, at, n);
+}
+
+// The n bars from place `from` on down to place `at`.
+pub fn move_bars_down(
+    times: &mut [i64],
+    ids: &mut [i32],
+    prices: &mut [[f64; 6]],
+    from: usize,
+    at: usize,
+    n: usize,
+)
+    requires { ⌜ at ≤ from ⌝ ∗ ⌜ RoomRaw (rawStore (now times) (now ids) (now prices)) (from + n) ⌝ }
+    ensures { λ _. ⌜ rawStore (now (times .exit)) (now (ids .exit)) (now (prices .exit)) ≡ copiedRaw (rawStore (now (times .entry)) (now (ids .entry)) (now (prices .entry))) at (rawStore (now (times .entry)) (now (ids .entry)) (now (prices .entry))) from n ⌝ }
+{
+    rows::down_times(times, from, at, n);
+    rows::down_ids(ids, from, at, n);
+    rows::down_prices(prices, from, at, n);
+}
+
+// The n bars from place `from` on up to place `at`.
+pub fn move_bars_up(
+    times: &mut [i64],
+    ids: &mut [i32],
+    prices: &mut [[f64; 6]],
+    from: usize,
+    at: usize,
+    n: usize,
+)
+    requires { ⌜ from ≤ at ⌝ ∗ ⌜ RoomRaw (rawStore (now times) (now ids) (now prices)) (at + n) ⌝ }
+    ensures { λ _. ⌜ rawStore (now (times .exit)) (now (ids .exit)) (now (prices .exit)) ≡ copiedRaw (rawStore (now (times .entry)) (now (ids .entry)) (now (prices .entry))) at (rawStore (now (times .entry)) (now (ids .entry)) (now (prices .entry))) from n ⌝ }
+{
+    rows::up_times(times, from, at, n);
+    rows::up_ids(ids, from, at, n);
+    rows::up_prices(prices, from, at, n);
+}
+
+pub fn copy_new_bars(
+    ts: &[i64],
+    is: &[i32],
+    ps: &[[f64; 6]],
+    cs: &[usize],
+    es: &[[i64; 101]],
+    times: &mut [i64],
+    ids: &mut [i32],
+    prices: &mut [[f64; 6]],
+    counts: &mut [usize],
+    elements: &mut [[i64; 101]],
+    n: usize,
+)
+    requires { ⌜ RoomMerged (mergedStore (now ts) (now is) (now ps) (now cs) (now es)) n ⌝ ∗ ⌜ RoomMerged (mergedStore (now times) (now ids) (now prices) (now counts) (now elements)) n ⌝ }
+    ensures { λ _. ⌜ mergedStore (now (times .exit)) (now (ids .exit)) (now (prices .exit)) (now (counts .exit)) (now (elements .exit)) ≡ copiedMerged (mergedStore (now (times .entry)) (now (ids .entry)) (now (prices .entry)) (now (counts .entry)) (now (elements .entry))) 0 (mergedStore (now (ts .entry)) (now (is .entry)) (now (ps .entry)) (now (cs .entry)) (now (es .entry))) 0 n ⌝ }
+{
+    copy_bars(ts, is, ps, times, ids, prices, n);
+    rows::copy_counts(cs, counts, n);
+    rows::copy_elements(es, elements, n);
+}
+
+pub fn join_new_bars(
+    ts: &[i64],
+    is: &[i32],
+    ps: &[[f64; 6]],
+    cs: &[usize],
+    es: &[[i64; 101]],
+    from: usize,
+    times: &mut [i64],
+    ids: &mut [i32],
+    prices: &mut [[f64; 6]],
+    counts: &mut [usize],
+    elements: &mut [[i64; 101]],
+    at: usize,
+    n: usize,
+)
+    requires { ⌜ RoomMerged (mergedStore (now ts) (now is) (now ps) (now cs) (now es)) (from + n) ⌝ ∗ ⌜ RoomMerged (mergedStore (now times) (now ids) (now prices) (now counts) (now elements)) (at + n) ⌝ }
+    ensures { λ _. ⌜ mergedStore (now (times .exit)) (now (ids .exit)) (now (prices .exit)) (now (counts .exit)) (now (elements .exit)) ≡ copiedMerged (mergedStore (now (times .entry)) (now (ids .entry)) (now (prices .entry)) (now (counts .entry)) (now (elements .entry))) at (mergedStore (now (ts .entry)) (now (is .entry)) (now (ps .entry)) (now (cs .entry)) (now (es .entry))) from n ⌝ }
+{
+    join_bars(ts, is, ps, from, times, ids, prices, at, n);
+    rows::join_counts(cs, from, counts, at, n);
+    rows::join_elements(es, from, elements, at, n);
+}
+
+pub fn move_new_bars_down(
+    times: &mut [i64],
+    ids: &mut [i32],
+    prices: &mut [[f64; 6]],
+    counts: &mut [usize],
+    elements: &mut [[i64; 101]],
+    from: usize,
+    at: usize,
+    n: usize,
+)
+    requires { ⌜ at ≤ from ⌝ ∗ ⌜ RoomMerged (mergedStore (now times) (now ids) (now prices) (now counts) (now elements)) (from + n) ⌝ }
+    ensures { λ _. ⌜ mergedStore (now (times .exit)) (now (ids .exit)) (now (prices .exit)) (now (counts .exit)) (now (elements .exit)) ≡ copiedMerged (mergedStore (now (times .entry)) (now (ids .entry)) (now (prices .entry)) (now (counts .entry)) (now (elements .entry))) at (mergedStore (now (times .entry)) (now (ids .entry)) (now (prices .entry)) (now (counts .entry)) (now (elements .entry))) from n ⌝ }
+{
+    move_bars_down(times, ids, prices, from, at, n);
+    rows::down_counts(counts, from, at, n);
+    rows::down_elements(elements, from, at, n);
+}
+
+// The n bars from place `from` on to the beginning. Of a row of elements only what is in use is moved:
+// what the places beyond a count hold afterwards is not said.
+pub fn move_new_bars_to_start(
+    times: &mut [i64],
+    ids: &mut [i32],
+    prices: &mut [[f64; 6]],
+    counts: &mut [usize],
+    elements: &mut [[i64; 101]],
+    from: usize,
+    n: usize,
+)
+    requires { ⌜ RoomMerged (mergedStore (now times) (now ids) (now prices) (now counts) (now elements)) (from + n) ⌝ }
+    ensures { λ _. ⌜ MovedToStart (mergedStore (now (times .entry)) (now (ids .entry)) (now (prices .entry)) (now (counts .entry)) (now (elements .entry))) from n (mergedStore (now (times .exit)) (now (ids .exit)) (now (prices .exit)) (now (counts .exit)) (now (elements .exit))) ⌝ }
+{
+    move_bars_down(times, ids, prices, from, 0, n);
+    rows::down_in_use(counts, elements, from, n);
+}
+
+pub fn move_new_bars_up(
+    times: &mut [i64],
+    ids: &mut [i32],
+    prices: &mut [[f64; 6]],
+    counts: &mut [usize],
+    elements: &mut [[i64; 101]],
+    from: usize,
+    at: usize,
+    n: usize,
+)
+    requires { ⌜ from ≤ at ⌝ ∗ ⌜ RoomMerged (mergedStore (now times) (now ids) (now prices) (now counts) (now elements)) (at + n) ⌝ }
+    ensures { λ _. ⌜ mergedStore (now (times .exit)) (now (ids .exit)) (now (prices .exit)) (now (counts .exit)) (now (elements .exit)) ≡ copiedMerged (mergedStore (now (times .entry)) (now (ids .entry)) (now (prices .entry)) (now (counts .entry)) (now (elements .entry))) at (mergedStore (now (times .entry)) (now (ids .entry)) (now (prices .entry)) (now (counts .entry)) (now (elements .entry))) from n ⌝ }
+{
+    move_bars_up(times, ids, prices, from, at, n);
+    rows::up_counts(counts, from, at, n);
+    rows::up_elements(elements, from, at, n);
+}
+
+// The n bars from place `from` on to place `at`, down or up.
+pub fn move_new_bars(
+    times: &mut [i64],
+    ids: &mut [i32],
+    prices: &mut [[f64; 6]],
+    counts: &mut [usize],
+    elements: &mut [[i64; 101]],
+    from: usize,
+    at: usize,
+    n: usize,
+)
+    requires { ⌜ RoomMerged (mergedStore (now times) (now ids) (now prices) (now counts) (now elements)) (from + n) ⌝ ∗ ⌜ RoomMerged (mergedStore (now times) (now ids) (now prices) (now counts) (now elements)) (at + n) ⌝ }
+    ensures { λ _. ⌜ mergedStore (now (times .exit)) (now (ids .exit)) (now (prices .exit)) (now (counts .exit)) (now (elements .exit)) ≡ copiedMerged (mergedStore (now (times .entry)) (now (ids .entry)) (now (prices .entry)) (now (counts .entry)) (now (elements .entry))) at (mergedStore (now (times .entry)) (now (ids .entry)) (now (prices .entry)) (now (counts .entry)) (now (elements .entry))) from n ⌝ }
+{
+    if at <= from {
+        move_new_bars_down(times, ids, prices, counts, elements, from, at, n);
+        return;
+    }
+    move_new_bars_up(times, ids, prices, counts, elements, from, at, n);
+}
+
+// ---- a time among the kept ones
+
+// The first of the first n places whose time is not before t, n where there is none: where one of
+// the first n bars has the time t, its place. Each turn halves the places that are left.
+pub fn find_time(times: &[i64], n: usize, t: i64) -> usize
+    requires { ⌜ n ≤ length (now times) ⌝ ∗ ⌜ T (rising (take n (now times))) ⌝ }
+    ensures { λ r. ⌜ r ≡ placeOf t (take n (now (times .entry))) ⌝ }
+{
+    let mut lo: usize = 0;
+    let mut hi = n;
+    while lo < hi {
+        let mid = lo + (hi - lo) / 2;
+        if times[mid] < t {
+            lo = mid + 1;
+        } else {
+            hi = mid;
+        }
+    }
+    lo
+}

@@ -1,0 +1,276 @@
+// Rows of one column copied or moved: a function of each kind for each column. All of them say `copied`,
+// of the rows or of what is in use of them.
+ghost use mathlib.Core.Path.{_≡_};
+ghost use mathlib.Core.List.{[]};
+ghost use Prim.Native.Nat.{_+_, _≤_, _<_, min};
+ghost use lib.ListN.{length, take, getD, set};
+ghost use Rattle.bars.specs.Lists.{copied};
+ghost use Rattle.stores.specs.Stores.{inUse};
+
+// ---- the first n rows of another slice to the beginning of this one
+
+pub fn copy_times(src: &[i64], dst: &mut [i64], n: usize)
+    requires { ⌜ (n ≤ length (now src)) × (n ≤ length (now dst)) ⌝ }
+    ensures { λ _. ⌜ now (dst .exit) ≡ copied (now (dst .entry)) 0 (now (src .entry)) 0 n ⌝ }
+{
+    let mut i: usize = 0;
+    while i < n {
+        let time = src[i];
+        dst[i] = time;
+        i += 1;
+    }
+}
+
+pub fn copy_ids(src: &[i32], dst: &mut [i32], n: usize)
+    requires { ⌜ (n ≤ length (now src)) × (n ≤ length (now dst)) ⌝ }
+    ensures { λ _. ⌜ now (dst .exit) ≡ copied (now (dst .entry)) 0 (now (src .entry)) 0 n ⌝ }
+{
+    let mut i: usize = 0;
+    while i < n {
+        let id = src[i];
+        dst[i] = id;
+        i += 1;
+    }
+}
+
+pub fn copy_prices(src: &[[f64; 6]], dst: &mut [[f64; 6]], n: usize)
+    requires { ⌜ (n ≤ length (now src)) × (n ≤ length (now dst)) ⌝ }
+    ensures { λ _. ⌜ now (dst .exit) ≡ copied (now (dst .entry)) 0 (now (src .entry)) 0 n ⌝ }
+{
+    let mut i: usize = 0;
+    while i < n {
+        let row = src[i];
+        dst[i] = row;
+        i += 1;
+    }
+}
+
+pub fn copy_counts(src: &[usize], dst: &mut [usize], n: usize)
+    requires { ⌜ (n ≤ length (now src)) × (n ≤ length (now dst)) ⌝ }
+    ensures { λ _. ⌜ now (dst .exit) ≡ copied (now (dst .entry)) 0 (now (src .entry)) 0 n ⌝ }
+{
+    let mut i: usize = 0;
+    while i < n {
+        let count = src[i];
+        dst[i] = count;
+        i += 1;
+    }
+}
+
+pub fn copy_elements(src: &[[i64; 101]], dst: &mut [[i64; 101]], n: usize)
+    requires { ⌜ (n ≤ length (now src)) × (n ≤ length (now dst)) ⌝ }
+    ensures { λ _. ⌜ now (dst .exit) ≡ copied (now (dst .entry)) 0 (now (src .entry)) 0 n ⌝ }
+{
+    let mut i: usize = 0;
+    while i < n {
+        let row = src[i];
+        dst[i] = row;
+        i += 1;
+    }
+}
+
+// ---- n rows of another slice, from place `from` on, to place `at` of this one: the part of this slice
+// that begins at `at` is lent to the copier
+
+pub fn join_times(src: &[i64], from: usize, dst: &mut [i64], at: usize, n: usize)
+    requires { ⌜ (from + n ≤ length (now src)) × (at + n ≤ length (now dst)) ⌝ }
+    ensures { λ _. ⌜ now (dst .exit) ≡ copied (now (dst .entry)) at (now (src .entry)) from n ⌝ }
+{
+    copy_times(&src[from..], &mut dst[at..], n);
+}
+
+pub fn join_ids(src: &[i32], from: usize, dst: &mut [i32], at: usize, n: usize)
+    requires { ⌜ (from + n ≤ length (now src)) × (at + n ≤ length (now dst)) ⌝ }
+    ensures { λ _. ⌜ now (dst .exit) ≡ copied (now (dst .entry)) at (now (src .entry)) from n ⌝ }
+{
+    copy_ids(&src[from..], &mut dst[at..], n);
+}
+
+pub fn join_prices(src: &[[f64; 6]], from: usize, dst: &mut [[f64; 6]], at: usize, n: usize)
+    requires { ⌜ (from + n ≤ length (now src)) × (at + n ≤ length (now dst)) ⌝ }
+    ensures { λ _. ⌜ now (dst .exit) ≡ copied (now (dst .entry)) at (now (src .entry)) from n ⌝ }
+{
+    copy_prices(&src[from..], &mut dst[at..], n);
+}
+
+pub fn join_counts(src: &[usize], from: usize, dst: &mut [usize], at: usize, n: usize)
+    requires { ⌜ (from + n ≤ length (now src)) × (at + n ≤ length (now dst)) ⌝ }
+    ensures { λ _. ⌜ now (dst .exit) ≡ copied (now (dst .entry)) at (now (src .entry)) from n ⌝ }
+{
+    copy_counts(&src[from..], &mut dst[at..], n);
+}
+
+pub fn join_elements(src: &[[i64; 101]], from: usize, dst: &mut [[i64; 101]], at: usize, n: usize)
+    requires { ⌜ (from + n ≤ length (now src)) × (at + n ≤ length (now dst)) ⌝ }
+    ensures { λ _. ⌜ now (dst .exit) ≡ copied (now (dst .entry)) at (now (src .entry)) from n ⌝ }
+{
+    copy_elements(&src[from..], &mut dst[at..], n);
+}
+
+// ---- n rows from place `from` down to place `at`, the first row first, so that none is lost where the
+// two runs overlap
+
+pub fn down_times(s: &mut [i64], from: usize, at: usize, n: usize)
+    requires { ⌜ (at ≤ from) × (from + n ≤ length (now s)) ⌝ }
+    ensures { λ _. ⌜ now (s .exit) ≡ copied (now (s .entry)) at (now (s .entry)) from n ⌝ }
+{
+    let mut i: usize = 0;
+    while i < n {
+        let time = s[from + i];
+        s[at + i] = time;
+        i += 1;
+    }
+}
+
+pub fn down_ids(s: &mut [i32], from: usize, at: usize, n: usize)
+    requires { ⌜ (at ≤ from) × (from + n ≤ length (now s)) ⌝ }
+    ensures { λ _. ⌜ now (s .exit) ≡ copied (now (s .entry)) at (now (s .entry)) from n ⌝ }
+{
+    let mut i: usize = 0;
+    while i < n {
+        let id = s[from + i];
+        s[at + i] = id;
+        i += 1;
+    }
+}
+
+pub fn down_prices(s: &mut [[f64; 6]], from: usize, at: usize, n: usize)
+    requires { ⌜ (at ≤ from) × (from + n ≤ length (now s)) ⌝ }
+    ensures { λ _. ⌜ now (s .exit) ≡ copied (now (s .entry)) at (now (s .entry)) from n ⌝ }
+{
+    let mut i: usize = 0;
+    while i < n {
+        let row = s[from + i];
+        s[at + i] = row;
+        i += 1;
+    }
+}
+
+pub fn down_counts(s: &mut [usize], from: usize, at: usize, n: usize)
+    requires { ⌜ (at ≤ from) × (from + n ≤ length (now s)) ⌝ }
+    ensures { λ _. ⌜ now (s .exit) ≡ copied (now (s .entry)) at (now (s .entry)) from n ⌝ }
+{
+    let mut i: usize = 0;
+    while i < n {
+        let count = s[from + i];
+        s[at + i] = count;
+        i += 1;
+    }
+}
+
+pub fn down_elements(s: &mut [[i64; 101]], from: usize, at: usize, n: usize)
+    requires { ⌜ (at ≤ from) × (from + n ≤ length (now s)) ⌝ }
+    ensures { λ _. ⌜ now (s .exit) ≡ copied (now (s .entry)) at (now (s .entry)) from n ⌝ }
+{
+    let mut i: usize = 0;
+    while i < n {
+        let row = s[from + i];
+        s[at + i] = row;
+        i += 1;
+    }
+}
+
+// ---- n rows of elements with their counts, from place `from` down to the beginning, the first row first.
+// Of a row only its first `count` places are copied, mostly one or two of 101: the places beyond the count
+// are free (document 01), and nothing is said of them.
+
+// The smaller of a count and the number of a row's places.
+fn in_row(row: &[i64], count: usize) -> usize
+    ensures { λ r. ⌜ r ≡ min count (length (now (row .entry))) ⌝ }
+{
+    let n = row.len();
+    if count < n {
+        return count;
+    }
+    n
+}
+
+// The first `count` places of the row at `from` to the row at `at`. No other row changes.
+fn copy_in_use(es: &mut [[i64; 101]], from: usize, at: usize, count: usize)
+    requires { ⌜ (from < length (now es)) × (at < length (now es)) ⌝ }
+    ensures { λ _. ⌜ (take count (getD (now (es .exit)) at []) ≡ take count (getD (now (es .entry)) from [])) × (now (es .exit) ≡ set (now (es .entry)) at (getD (now (es .exit)) at [])) ⌝ }
+{
+    let m = in_row(&es[from], count);
+    let n = in_row(&es[at], m);
+    let mut k: usize = 0;
+    while k < n {
+        let time = es[from][k];
+        es[at][k] = time;
+        k += 1;
+    }
+}
+
+pub fn down_in_use(cs: &mut [usize], es: &mut [[i64; 101]], from: usize, n: usize)
+    requires { ⌜ (from + n ≤ length (now cs)) × (from + n ≤ length (now es)) ⌝ }
+    ensures { λ _. ⌜ (now (cs .exit) ≡ copied (now (cs .entry)) 0 (now (cs .entry)) from n) × (inUse (now (cs .exit)) (now (es .exit)) ≡ copied (inUse (now (cs .entry)) (now (es .entry))) 0 (inUse (now (cs .entry)) (now (es .entry))) from n) ⌝ }
+{
+    let mut i: usize = 0;
+    while i < n {
+        let count = cs[from + i];
+        cs[i] = count;
+        copy_in_use(es, from + i, i, count);
+        i += 1;
+    }
+}
+
+// ---- n rows from place `from` up to place `at`, the last row first
+
+pub fn up_times(s: &mut [i64], from: usize, at: usize, n: usize)
+    requires { ⌜ (from ≤ at) × (at + n ≤ length (now s)) ⌝ }
+    ensures { λ _. ⌜ now (s .exit) ≡ copied (now (s .entry)) at (now (s .entry)) from n ⌝ }
+{
+    let mut left = n;
+    while 0 < left {
+        left -= 1;
+        let time = s[from + left];
+        s[at + left] = time;
+    }
+}
+
+pub fn up_ids(s: &mut [i32], from: usize, at: usize, n: usize)
+    requires { ⌜ (from ≤ at) × (at + n ≤ length (now s)) ⌝ }
+    ensures { λ _. ⌜ now (s .exit) ≡ copied (now (s .entry)) at (now (s .entry)) from n ⌝ }
+{
+    let mut left = n;
+    while 0 < left {
+        left -= 1;
+        let id = s[from + left];
+        s[at + left] = id;
+    }
+}
+
+pub fn up_prices(s: &mut [[f64; 6]], from: usize, at: usize, n: usize)
+    requires { ⌜ (from ≤ at) × (at + n ≤ length (now s)) ⌝ }
+    ensures { λ _. ⌜ now (s .exit) ≡ copied (now (s .entry)) at (now (s .entry)) from n ⌝ }
+{
+    let mut left = n;
+    while 0 < left {
+        left -= 1;
+        let row = s[from + left];
+        s[at + left] = row;
+    }
+}
+
+pub fn up_counts(s: &mut [usize], from: usize, at: usize, n: usize)
+    requires { ⌜ (from ≤ at) × (at + n ≤ length (now s)) ⌝ }
+    ensures { λ _. ⌜ now (s .exit) ≡ copied (now (s .entry)) at (now (s .entry)) from n ⌝ }
+{
+    let mut left = n;
+    while 0 < left {
+        left -= 1;
+        let count = s[from + left];
+        s[at + left] = count;
+    }
+}
+
+pub fn up_elements(s: &mut [[i64; 101]], from: usize, at: usize, n: usize)
+    requires { ⌜ (from ≤ at) × (at + n ≤ length (now s)) ⌝ }
+    ensures { λ _. ⌜ now (s .exit) ≡ copied (now (s .entry)) at (now (s .entry)) from n ⌝ }
+{
+    let mut left = n;
+    while 0 < left {
+        left -= 1;
+        let row = s[from + left];
+        s[at + left] = row;
+    }
+}
