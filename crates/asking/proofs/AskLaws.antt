@@ -14,8 +14,8 @@ use Rattle.bars.specs.declared.Bar.{Bar}
 use Rattle.bars.specs.Bars.{Merged}
 use Rattle.bars.specs.Lists.{last}
 use Rattle.bars.specs.Questions.{question9, notEarlier, firstFailed, firstFailedAfter}
-use Rattle.bars.specs.Stores.{RawStore, MergedStore, SizedRaw, rawPart, zipWith, barOf, rawBars, mergedBars, barAt}
-use Rattle.bars.proofs.Columns.{raw-length, raw-at}
+use Rattle.stores.specs.Stores.{RawStore, MergedStore, SizedRaw, rawPart, zipWith, barOf, rawBars, mergedBars, barAt}
+use Rattle.stores.proofs.Columns.{raw-length, raw-at}
 use Rattle.machine.specs.declared.Mark.{Mark}
 use Rattle.machine.specs.declared.Mark.the-variants.{D, G}
 use Rattle.machine.specs.declared.Direction.{Direction}

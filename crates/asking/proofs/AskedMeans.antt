@@ -10,7 +10,7 @@ use Rattle.bars.specs.declared.Bar.{Bar}
 use Rattle.bars.specs.Bars.{Merged}
 use Rattle.bars.specs.Lists.{last, init}
 use Rattle.bars.specs.Questions.{firstFailed}
-use Rattle.bars.specs.Stores.{MergedStore, SizedRaw, rawBars, barAt, rawPart}
+use Rattle.stores.specs.Stores.{MergedStore, SizedRaw, rawBars, barAt, rawPart}
 use Rattle.machine.specs.declared.Mark.{Mark}
 use Rattle.machine.specs.declared.Mark.the-variants.{D, G}
 use Rattle.machine.specs.Strokes.{Stroke, directionOf}

@@ -14,14 +14,14 @@ use Rattle.bars.specs.declared.NewBar.{NewBar}
 use Rattle.bars.specs.Bars.{Merged, mergedOf}
 use Rattle.bars.specs.Lists.{keepIf, foldl, last}
 use Rattle.bars.specs.Merging.{atTimes, again, mergeAll}
-use Rattle.bars.specs.Stores.{RawStore, MergedStore, rawPart, SizedRaw, SizedMerged, rawBars, mergedBars, barAt, newBarAt, setBar}
+use Rattle.stores.specs.Stores.{RawStore, MergedStore, rawPart, SizedRaw, SizedMerged, rawBars, mergedBars, barAt, newBarAt, setBar}
 use Rattle.bars.specs.MergedBars.{mergeBars, mergeBarsAll, behind}
-use Rattle.bars.proofs.Columns.{raw-length, raw-at, raw-appended, sized-set}
+use Rattle.stores.proofs.Columns.{raw-length, raw-at, raw-appended, sized-set}
 use Rattle.bars.proofs.MergedLists.{merge-grows}
-use Rattle.bars.proofs.Searching.{timed}
-use Rattle.bars.proofs.TailMerging.{view-merged}
-use Rattle.strokes.specs.declared.Stand.{Stand}
+use Rattle.stores.proofs.Searching.{timed}
+use Rattle.stores.proofs.TailMerging.{view-merged}
 use Rattle.strokes.specs.StoreSteps.{RisingRaw}
+use Rattle.strokes.proofs.StoredAgain.{keeping}
 use Rattle.check_bi.specs.View.{view}
 use Rattle.asking.specs.MergedTail.{CanTail, HasTail, NamedRaw}
 
@@ -164,20 +164,6 @@ later-put u t w k c n m r l b s q =
     )
 
 -- ---- the raw bar of a time
-
--- a stand that keeps n raw bars in a store of K places: the laws of a time's raw bar speak of a stand
-abbrev pub keeping : ℕ → ℕ → Stand
-keeping K n =
-    record {
-      minimum = 0;
-      most = 0;
-      rooms = record { raw = K; unfinished = 0; strokes = 0 };
-      raw = n;
-      unfinished = 0;
-      strokes = 0;
-      bars = [];
-      fractals = [];
-    }
 
 pub rises : (s : RawStore) (K n : ℕ) → NamedRaw s K n → RisingRaw (keeping K n) s
 rises s K n h = record { sized = h .sized; fits = h .fits; rise = h .rise }

@@ -14,7 +14,7 @@ use lib.Dec.{eqb, leb, ltb}
 use lib.Ieee.{Float, lt}
 use borrow.Author.Tests.{le-leb, lt-leb, lt-ltb, le-ltb, eq-eqb, ne-eqb}
 use Rattle.arith.specs.Order.{maxOf, minOf}
-use Rattle.bars.specs.Stores.{zipWith, nextIf, placeOf}
+use Rattle.stores.specs.Stores.{zipWith, nextIf, placeOf}
 use Rattle.machine.specs.declared.Mark.{Mark}
 use Rattle.machine.specs.declared.Mark.the-variants.{D, G}
 use Rattle.check_bi.specs.declared.scan.Candle.{Candle}
@@ -143,6 +143,12 @@ pub broken-no : (f : FoundBi) (b : Last) (k : Candle) (ts : List ℤ) (total : �
 unfolding brokenOf brokenIf
 broken-no f b k ts total r h e = (e .0 ∙ ap (λ (x : Bool). brokenIf x f b (joinOf f b ts) total) (sym h), e .1)
 
+-- no stroke was kept before, and the view v is cut
+pub kept-from : (v : List Candle) (minimum cut total : ℕ) (f : FoundBi) (r : Plan) → cut ≡ cutOf v → f ≡ foundFrom minimum cut v → (r ≡ keptOf cut f total) × InView r total
+    → (r ≡ keptOf (cutOf v) (foundFrom minimum (cutOf v) v) total) × InView r total
+kept-from v minimum cut total f r p e g =
+    (g .0 ∙ ap (λ (x : FoundBi). keptOf cut x total) e ∙ ap (λ (x : ℕ). keptOf x (foundFrom minimum x v) total) p, g .1)
+
 -- the view of times ts and us, and of prices ps and qs
 module _ (ts us : List ℤ) (ps qs : List (List Float)) (n m : ℕ) (a : n ≤ length ts) (b : n ≤ length ps) (c : m ≤ length us) (d : m ≤ length qs) where
   abbrev pub seen : List Candle
@@ -181,14 +187,9 @@ module _ (ts us : List ℤ) (ps qs : List (List Float)) (n m : ℕ) (a : n ≤ l
     plan-few f h e g =
         (g .0 ∙ ap (λ (x : FoundBi). keptOf 0 x (n + m)) e ∙ by-length true (eqb kept 0) (lt-ltb (n + m) 3 h) refl, g .1)
 
-    pub plan-first : (cut : ℕ) (f : FoundBi) → 3 ≤ n + m → kept ≡ 0 → cut ≡ cutOf seen → f ≡ foundFrom minimum cut seen → (r ≡ keptOf cut f (n + m)) × InView r (n + m)
-        → (r ≡ planOf kept minimum z seen) × InView r (n + m)
+    pub plan-first : 3 ≤ n + m → kept ≡ 0 → (r ≡ keptOf (cutOf seen) (foundFrom minimum (cutOf seen) seen) (n + m)) × InView r (n + m) → (r ≡ planOf kept minimum z seen) × InView r (n + m)
     unfolding planIf
-    plan-first cut f h k p e g = (
-      g .0 ∙ ap (λ (x : FoundBi). keptOf cut x (n + m)) e ∙ ap (λ (x : ℕ). keptOf x (foundFrom minimum x seen) (n + m)) p
-          ∙ by-length false true (le-ltb (n + m) 3 h) (eq-eqb kept 0 k),
-      g .1,
-    )
+    plan-first h k g = (g .0 ∙ by-length false true (le-ltb (n + m) 3 h) (eq-eqb kept 0 k), g .1)
 
     pub plan-later : (f : FoundBi) (w : Last) (k : Candle) (i : ℕ) → 3 ≤ n + m → (kept ≡ 0 → ⊥) → f ≡ foundFrom minimum 0 seen → w ≡ lastWith f z → i ≡ n + m - 1
         → k ≡ candleFrom (getD (view n ts m us) i (pos 0)) (getD (view n ps m qs) i []) → (r ≡ brokenOf f w k (view n ts m us) (n + m)) × InView r (n + m)

@@ -18,8 +18,9 @@ use Rattle.arith.specs.Order.{maxOf, minOf}
 use Rattle.bars.specs.declared.Bar.{Bar}
 use Rattle.bars.specs.Bars.{Merged}
 use Rattle.bars.specs.Lists.{last, init}
-use Rattle.bars.specs.Stores.{placeOf}
-use Rattle.bars.proofs.Searching.{place-skip}
+use Rattle.stores.specs.Stores.{placeOf}
+use Rattle.stores.proofs.Searching.{place-skip}
+use Rattle.stores.proofs.AgainBound.{init-length}
 use Rattle.machine.specs.declared.Mark.{Mark}
 use Rattle.machine.specs.declared.Mark.the-variants.{D, G}
 use Rattle.check_bi.specs.declared.scan.Candle.{Candle}
@@ -41,8 +42,9 @@ use Rattle.check_bi.specs.View.{candleFrom}
 use Rattle.asking.specs.FeedPlan.{cutOf, foundFrom, breaksIf, breaksOf, lastIf, lastWith, keptOf, brokenIf, joinOf, brokenOf, timesOf, lastCandle, planIf, planOf, refusedOf}
 use Rattle.machine.proofs.Places.{fits}
 use Rattle.machine.proofs.FewerFractals.{nothingFound, end-stands, order}
-use Rattle.check_bi.proofs.ScanPlaces.{MadeAs, Means, cut-means, found-means}
+use Rattle.check_bi.proofs.ScanPlaces.{MadeAs, Means, cut-means, found-means, place-is}
 use Rattle.strokes.proofs.StoredRaw.{init-take, last-take}
+use Rattle.strokes.proofs.BareStates.{map-drop}
 use Rattle.machine.proofs.StrokesMeet.{last-append}
 use Rattle.asking.proofs.PlanLaws.{last-old}
 
@@ -89,17 +91,6 @@ pub record Planned (minimum : ℕ) (l : List Merged) (bs : List Stroke) (b : Str
   pub fewer : p .broken ≡ false → p .left ≤ length l
 
 -- ---- lists
-
-map-drop : {A B : Type 0} (f : A → B) (i : ℕ) (l : List A) → map f (drop i l) ≡ drop i (map f l)
-map-drop f zero l = refl
-map-drop f (suc i) [] = refl
-map-drop f (suc i) (a ∷ l) = map-drop f i l
-
-length-init : {A : Type 0} (l : List A) → length (init l) ≡ length l - 1
-unfolding init
-length-init [] = refl
-length-init (a ∷ []) = refl
-length-init (a ∷ b ∷ l) = omega (arith, length-init (b ∷ l))
 
 last-at : {A : Type 0} (z : A) (k : List A) → 0 < length k → last k ≡ some (getD k (length k - 1) z)
 unfolding last
@@ -173,10 +164,6 @@ unfolding foundFrom foundOf
 none-found minimum lo v =
     let s = scanOf (drop lo v) in
     none-made (s .found && (leb minimum (barsTo s) && not (holdsOf (s .start) (s .end)))) s
-
-place-is : (q : Placed) → (fxPlaced q) .place ≡ q .place
-unfolding fxPlaced fxAt
-place-is q = refl
 
 -- the stroke that is made, and what is read of it
 module _ (minimum : ℕ) (k : List Merged) (o : Found) (f : FoundBi) (m : MadeAs minimum k o f) where
@@ -422,7 +409,7 @@ module _ (minimum : ℕ) (l : List Merged) (v : List Candle) (same : v ≡ map c
           leaves =
               ap (λ (m : Moved). length (m .left)) g
               ∙ omega
-              (arith, length-append (init (init (w0 .bars))) (drop j l), length-init (init (w0 .bars)), length-init (w0 .bars), length-drop j l, reads0 .bars-are, long);
+              (arith, length-append (init (init (w0 .bars))) (drop j l), init-length (init (w0 .bars)), init-length (w0 .bars), length-drop j l, reads0 .bars-are, long);
           counts = counts-are minimum l (a ∷ bs) b 0 f empty0 (found-at 0) later-make (length v) long;
           fewer = λ q. let y : _≡_ {A = ℕ} 0 1 = cc in absurd (omega arith);
         }
@@ -446,17 +433,17 @@ module _ (minimum : ℕ) (l : List Merged) (v : List Candle) (same : v ≡ map c
 
 -- ---- questions 11 and 12
 
+pub add-unbroken : (o : Option Stroke) (bs : List Stroke) (r : List Merged) → (addFound o bs r) .broken ≡ 0
+unfolding addFound
+add-unbroken none bs r = refl
+add-unbroken (some s) bs r = refl
+
 module _ (minimum : ℕ) (l : List Merged) (bs : List Stroke) (b : Stroke) (p : Plan) (h : Planned minimum l bs b p) (room : ℕ) where
   abbrev M : Moved
   M = move minimum l bs
 
-  add-unbroken : (o : Option Stroke) (r : List Merged) → (addFound o bs r) .broken ≡ 0
-  unfolding addFound
-  add-unbroken none r = refl
-  add-unbroken (some s) r = refl
-
   unbroken : (make minimum l bs) .broken ≡ 0
-  unbroken = ap (λ (m : Moved). m .broken) (h .makes) ∙ add-unbroken ((checkBi minimum (drop (p .cut) l)) .stroke) (drop (p .cut + p .found .end .place) l)
+  unbroken = ap (λ (m : Moved). m .broken) (h .makes) ∙ add-unbroken ((checkBi minimum (drop (p .cut) l)) .stroke) bs (drop (p .cut + p .found .end .place) l)
 
   fits-by : (t : Bool) → p .broken ≡ t → (leb (length l) room && movedFits room M) ≡ (leb (length l) room && leb (p .left) room)
   unfolding movedFits joinedFits movedAs

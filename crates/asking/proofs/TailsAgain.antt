@@ -1,5 +1,5 @@
 -- Laws of the tail of a bar with the last time, and of both tails as what merging gives. Assumes nothing.
-use Prim.Native.Nat.{ℕ, zero, suc, _+_, _-_, _<_, _≤_}
+use Prim.Native.Nat.{ℕ, _+_, _-_, _<_, _≤_}
 use mathlib.Core.Bool.{Bool, true, false}
 use mathlib.Core.List.{List, [], _∷_, _++_, map}
 use mathlib.Core.Option.{some}
@@ -13,9 +13,10 @@ use Rattle.bars.specs.declared.NewBar.{NewBar}
 use Rattle.bars.specs.Bars.{mergedOf}
 use Rattle.bars.specs.Lists.{foldl, last}
 use Rattle.bars.specs.Merging.{mergeIn, mergeAll, atTimes, again}
-use Rattle.bars.specs.Stores.{RawStore, MergedStore, SizedMerged, rawPart, rawBars, mergedBars, newBarAt}
+use Rattle.stores.specs.Stores.{RawStore, MergedStore, SizedMerged, rawPart, rawBars, mergedBars, newBarAt}
 use Rattle.bars.specs.MergedBars.{mergeBars, mergeBarsAll}
-use Rattle.bars.proofs.Columns.{merged-length, merged-at, merged-bars}
+use Rattle.stores.proofs.Columns.{merged-length, merged-at, merged-bars}
+use Rattle.stores.proofs.KeptBars.{map-take}
 use Rattle.bars.proofs.MergedLists.{withoutElements, merge-bars, merge-bars-all}
 use Rattle.strokes.specs.StoreSteps.{mergedAgain}
 use Rattle.strokes.proofs.StoredRaw.{init-take, last-take}
@@ -61,11 +62,6 @@ module _ (u t : RawStore) (K k n m old : ℕ) (h : CanRun u t K k n m old) (raw 
         (tail-end u w k n r raw (take old es) answer i g (omega arith) (omega arith), omega arith)
 
 -- ---- the bars without their elements
-
-map-take : {A B : Type 0} (f : A → B) (n : ℕ) (l : List A) → map f (take n l) ≡ take n (map f l)
-map-take f zero l = refl
-map-take f (suc n) [] = refl
-map-take f (suc n) (a ∷ l) = ap (f a ∷_) (map-take f n l)
 
 -- the first n bars of a store
 pub bars-kept : (u : MergedStore) (K n : ℕ) → SizedMerged u K → take n (rawBars (rawPart u)) ≡ barsOnly (take n (mergedBars u))

@@ -10,7 +10,7 @@ use lib.Ieee.{Float}
 use Rattle.bars.specs.declared.Bar.{Bar}
 use Rattle.bars.specs.Bars.{Merged}
 use Rattle.bars.specs.Questions.{firstFailed}
-use Rattle.bars.specs.Stores.{RawStore, MergedStore, SizedMerged, rawBars, mergedBars}
+use Rattle.stores.specs.Stores.{RawStore, MergedStore, SizedMerged, rawBars, mergedBars}
 use Rattle.machine.specs.declared.Mark.{Mark}
 use Rattle.machine.specs.declared.Mark.the-variants.{D, G}
 use Rattle.machine.specs.declared.Direction.{Direction}

@@ -9,7 +9,7 @@ use lib.IntN.{ℤ, pos}
 use lib.Dec.{eqb, leb, ltb}
 use lib.Ieee.{lt}
 use Rattle.arith.specs.Order.{maxOf, minOf}
-use Rattle.bars.specs.Stores.{placeOf}
+use Rattle.stores.specs.Stores.{placeOf}
 use Rattle.machine.specs.declared.Mark.{Mark}
 use Rattle.machine.specs.declared.Mark.the-variants.{D, G}
 use Rattle.check_bi.specs.declared.scan.Candle.{Candle}

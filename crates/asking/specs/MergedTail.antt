@@ -9,7 +9,7 @@ use lib.Dec.{T}
 use Rattle.bars.specs.declared.Bar.{Bar}
 use Rattle.bars.specs.Bars.{Merged}
 use Rattle.bars.specs.Merging.{mergeIn}
-use Rattle.bars.specs.Stores.{RawStore, MergedStore, SizedRaw, SizedMerged, rawBars, rising}
+use Rattle.stores.specs.Stores.{RawStore, MergedStore, SizedRaw, SizedMerged, rawBars, rising}
 use Rattle.strokes.specs.StoreSteps.{mergedAgain}
 use Rattle.check_bi.specs.View.{view}
 

@@ -5,7 +5,7 @@ ghost use mathlib.Core.Path.{_≡_};
 ghost use mathlib.Core.Bool.{false};
 ghost use Prim.Native.Nat.{_+_, _≤_};
 ghost use lib.ListN.{length, take};
-ghost use Rattle.bars.specs.Stores.{rawStore, mergedStore, rawBars, mergedBars};
+ghost use Rattle.stores.specs.Stores.{rawStore, mergedStore, rawBars, mergedBars};
 ghost use Rattle.bars.specs.Merging.{atTimes};
 ghost use Rattle.bars.specs.MergedBars.{mergeBars, mergeBarsAll};
 ghost use Rattle.check_bi.specs.View.{view};
@@ -34,11 +34,11 @@ fn merge_behind(
     ensures { λ r. ⌜ HasTail (rawStore (now (ut .entry)) (now (ui .entry)) (now (up .entry))) (rawStore (now (tt .exit)) (now (ti .exit)) (now (tp .exit))) (length (now (tt .entry))) n r (mergeBars (view n (rawBars (rawStore (now (ut .entry)) (now (ui .entry)) (now (up .entry)))) m (rawBars (rawStore (now (tt .entry)) (now (ti .entry)) (now (tp .entry))))) b) × (r ≤ m + 1) ⌝ }
 {
     if n == 0 {
-        return bars::merge_into_tail(false, b, tt, ti, tp, m, b);
+        return stores::merge_into_tail(false, b, tt, ti, tp, m, b);
     }
     let at = n - 1;
-    let k = bars::read_bar(ut, ui, up, at);
-    bars::merge_into_tail(true, k, tt, ti, tp, m, b)
+    let k = stores::read_bar(ut, ui, up, at);
+    stores::merge_into_tail(true, k, tt, ti, tp, m, b)
 }
 
 // The raw bar of time t, if one is kept, merged into the same view.
@@ -60,12 +60,12 @@ fn merge_named(
     requires { ⌜ NamedRaw (rawStore (now rt) (now ri) (now rp)) (length (now rt)) raw ⌝ ∗ ⌜ CanTail (rawStore (now ut) (now ui) (now up)) (rawStore (now tt) (now ti) (now tp)) (length (now ut)) (length (now tt)) n m ⌝ ∗ ⌜ (m ≡ 0 → n ≡ 0) ⌝ }
     ensures { λ r. ⌜ HasTail (rawStore (now (ut .entry)) (now (ui .entry)) (now (up .entry))) (rawStore (now (tt .exit)) (now (ti .exit)) (now (tp .exit))) (length (now (tt .entry))) n r (mergeBarsAll (view n (rawBars (rawStore (now (ut .entry)) (now (ui .entry)) (now (up .entry)))) m (rawBars (rawStore (now (tt .entry)) (now (ti .entry)) (now (tp .entry))))) (atTimes (take raw (rawBars (rawStore (now (rt .entry)) (now (ri .entry)) (now (rp .entry))))) (t ∷ []))) × (r ≤ m + 1) ⌝ }
 {
-    let p = bars::find_time(rt, raw, t);
+    let p = stores::find_time(rt, raw, t);
     if p < raw {
         if t < rt[p] {
             return m;
         }
-        let b = bars::read_bar(rt, ri, rp, p);
+        let b = stores::read_bar(rt, ri, rp, p);
         return merge_behind(ut, ui, up, n, tt, ti, tp, m, b);
     }
     m
@@ -88,8 +88,8 @@ fn start_tail(
         return TailAnswer { base: 0, rows: 0 };
     }
     let base = n - 1;
-    let last = bars::read_bar(ut, ui, up, base);
-    bars::write_bar(tt, ti, tp, 0, last);
+    let last = stores::read_bar(ut, ui, up, base);
+    stores::write_bar(tt, ti, tp, 0, last);
     TailAnswer { base, rows: 1 }
 }
 
@@ -166,7 +166,7 @@ fn tail_again(
     ensures { λ r. ⌜ HasTail (rawStore (now (ut .entry)) (now (ui .entry)) (now (up .entry))) (rawStore (now (tt .exit)) (now (ti .exit)) (now (tp .exit))) 103 (r .base) (r .rows) (barsOnly (mergedAgain (take raw (rawBars (rawStore (now (rt .entry)) (now (ri .entry)) (now (rp .entry))))) (take count (mergedBars (mergedStore (now (ut .entry)) (now (ui .entry)) (now (up .entry)) (now (uc .entry)) (now (ue .entry))))) b)) × (r .base ≤ count) ⌝ }
 {
     let at = count - 1;
-    let newest = bars::read_new_bar(ut, ui, up, uc, ue, at);
+    let newest = stores::read_new_bar(ut, ui, up, uc, ue, at);
     let es = newest.elements;
     let old = newest.count - 1;
     let start = start_tail(ut, ui, up, at, tt, ti, tp);

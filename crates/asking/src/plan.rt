@@ -5,7 +5,7 @@ ghost use Prim.Native.Nat.{_+_, _-_, _≤_, _<_};
 ghost use lib.ListN.{length, getD, drop};
 ghost use lib.IntN.{pos};
 ghost use lib.Signed.{ltZ};
-ghost use Rattle.bars.specs.Stores.{placeOf};
+ghost use Rattle.stores.specs.Stores.{placeOf};
 ghost use Rattle.check_bi.specs.View.{view, candles};
 ghost use Rattle.asking.specs.FeedPlan.{cutOf, foundFrom, Fits, breaksOf, lastWith, keptOf, brokenOf, planOf, refusedOf, InView};
 use check_bi::Candle;
@@ -64,16 +64,6 @@ fn skip(ts: &[i64], us: &[i64], n: usize, m: usize, lo: usize, t: i64) -> usize
         }
     }
     i
-}
-
-// The place that the first stroke's cut begins at.
-fn cut_of(ts: &[i64], ps: &[[f64; 6]], us: &[i64], qs: &[[f64; 6]], n: usize, m: usize) -> usize
-    requires { ⌜ (n ≤ length (now ts)) × (n ≤ length (now ps)) × (m ≤ length (now us)) × (m ≤ length (now qs)) × (n + m < 4294967296) ⌝ }
-    ensures { λ r. ⌜ (r ≡ cutOf (candles (view n (now (ts .entry)) m (now (us .entry))) (view n (now (ps .entry)) m (now (qs .entry))))) × (r ≤ n + m) ⌝ }
-{
-    let s = scan_from(ts, ps, us, qs, n, m, 0);
-    let cut = s.cut;
-    cut.place
 }
 
 // check_bi of the view from place lo on.
@@ -143,6 +133,32 @@ fn kept_plan(cut: usize, f: FoundBi, total: usize) -> Plan
     }
 }
 
+// No stroke was kept before: the view is cut, and check_bi asked from there on. Where nothing is cut off, the scan that the
+// cut was read from is the one to ask.
+fn first_plan(
+    ts: &[i64],
+    ps: &[[f64; 6]],
+    us: &[i64],
+    qs: &[[f64; 6]],
+    n: usize,
+    m: usize,
+    minimum: usize,
+) -> Plan
+    requires { ⌜ (n ≤ length (now ts)) × (n ≤ length (now ps)) × (m ≤ length (now us)) × (m ≤ length (now qs)) × (n + m < 4294967296) ⌝ }
+    ensures { λ r. ⌜ (let v = candles (view n (now (ts .entry)) m (now (us .entry))) (view n (now (ps .entry)) m (now (qs .entry))) in (r ≡ keptOf (cutOf v) (foundFrom minimum (cutOf v) v) (n + m)) × InView r (n + m)) ⌝ }
+{
+    let s = scan_from(ts, ps, us, qs, n, m, 0);
+    let begin = s.cut;
+    let cut = begin.place;
+    let total = n + m;
+    if cut == 0 {
+        let f = found_bi(s, minimum);
+        return kept_plan(0, f, total);
+    }
+    let f = found_from(ts, ps, us, qs, n, m, cut, minimum);
+    kept_plan(cut, f, total)
+}
+
 // What stands for a plan where none is made.
 pub fn no_plan() -> Plan {
     let f = no_bi();
@@ -193,9 +209,7 @@ pub fn plan_of(
         return kept_plan(0, f, total);
     }
     if kept == 0 {
-        let cut = cut_of(ts, ps, us, qs, n, m);
-        let f = found_from(ts, ps, us, qs, n, m, cut, minimum);
-        return kept_plan(cut, f, total);
+        return first_plan(ts, ps, us, qs, n, m, minimum);
     }
     let f = found_from(ts, ps, us, qs, n, m, 0, minimum);
     let b = last_with(f, last);

@@ -4,7 +4,7 @@ ghost use mathlib.Core.Path.{_≡_};
 ghost use Prim.Native.Nat.{_+_, _≤_, _<_};
 ghost use lib.ListN.{length, take};
 ghost use Rattle.bars.specs.Lists.{last};
-ghost use Rattle.bars.specs.Stores.{rawStore, mergedStore, SizedRaw, rawBars};
+ghost use Rattle.stores.specs.Stores.{rawStore, mergedStore, SizedRaw, rawBars};
 ghost use Rattle.check_bi.specs.View.{view, candles};
 ghost use Rattle.strokes.specs.Stored.{fractalStore, settingsOf, stateOf};
 ghost use Rattle.sound.specs.SoundStand.{storesOf};
@@ -75,7 +75,7 @@ fn ask_early(rt: &[i64], ri: &[i32], rp: &[[f64; 6]], count: usize, room: usize,
         };
     }
     let at = count - 1;
-    let k = bars::read_bar(rt, ri, rp, at);
+    let k = stores::read_bar(rt, ri, rp, at);
     let t = k.time;
     let q = bars::question_after(true, t, b);
     let later = t < b.time;

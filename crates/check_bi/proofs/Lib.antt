@@ -1,3 +1,4 @@
 pub mod ScanPlaces
 pub mod ScanSteps
 pub mod ScanViews
+pub mod ScanWindows

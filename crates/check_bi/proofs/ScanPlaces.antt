@@ -320,7 +320,7 @@ record Upto (s : Scan) (ps : List Placed) : Type 0 where
   all : s .count ≡ length ps
   some' : s .found ≡ true → s .upto ≡ within (s .end .place) ps
 
-place-is : (q : Placed) → (fxPlaced q) .place ≡ q .place
+pub place-is : (q : Placed) → (fxPlaced q) .place ≡ q .place
 unfolding fxPlaced fxAt
 place-is q = refl
 

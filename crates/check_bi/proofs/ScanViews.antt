@@ -10,7 +10,8 @@ use lib.Seq.{length-take-le, getD-take, getD-append-add, getD-drop, drop-cons}
 use lib.IntN.{ℤ, pos}
 use lib.Dec.{eqb, leb}
 use lib.Ieee.{Float, nan}
-use Rattle.bars.specs.Stores.{zipWith, barOf, mergedWith, mergedStore, rawBars, mergedBars}
+use Rattle.stores.specs.Stores.{zipWith, barOf, mergedWith, mergedStore, rawBars, mergedBars}
+use Rattle.stores.proofs.KeptBars.{map-take}
 use Rattle.machine.specs.declared.Mark.{Mark}
 use Rattle.machine.specs.declared.Mark.the-variants.{D, G}
 use Rattle.check_bi.specs.declared.scan.Candle.{Candle}
@@ -87,7 +88,7 @@ small-on s i k h l b =
       near = λ f. omega (arith, h .near f);
     }
 
-best-place : (t : Bool) (f b : Fx) (i : ℕ) → f .place ≤ i → b .place ≤ i → (bestIf t f b) .place ≤ i
+pub best-place : (t : Bool) (f b : Fx) (i : ℕ) → f .place ≤ i → b .place ≤ i → (bestIf t f b) .place ≤ i
 unfolding bestIf
 best-place true f b i h k = h
 best-place false f b i h k = k
@@ -288,11 +289,6 @@ unfolding candles view
 candles-view ts us ps qs n m h k =
     append-zip candleFrom (take n ts) (take m us) (take n ps) (take m qs) (length-take-le n ts h ∙ sym (length-take-le n ps k))
     ∙ (λ i. take-zip candleFrom n ts ps i ++ take-zip candleFrom m us qs i)
-
-map-take : {A B : Type 0} (f : A → B) (n : ℕ) (l : List A) → map f (take n l) ≡ take n (map f l)
-map-take f zero l = refl
-map-take f (suc n) [] = refl
-map-take f (suc n) (x ∷ l) = ap (f x ∷_) (map-take f n l)
 
 pub view-map : {A B : Type 0} (f : A → B) (n : ℕ) (s : List A) (m : ℕ) (t : List A) → map f (view n s m t) ≡ view n (map f s) m (map f t)
 unfolding view

@@ -4,7 +4,7 @@ use mathlib.Core.List.{List, [], _∷_, _++_}
 use lib.ListN.{take, getD}
 use lib.IntN.{ℤ}
 use lib.Ieee.{Float, nan}
-use Rattle.bars.specs.Stores.{zipWith}
+use Rattle.stores.specs.Stores.{zipWith}
 use Rattle.check_bi.specs.declared.scan.Candle.{Candle}
 
 unfoldable pub view : {A : Type 0} → ℕ → List A → ℕ → List A → List A

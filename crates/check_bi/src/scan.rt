@@ -8,6 +8,7 @@ ghost use lib.IntN.{pos};
 ghost use Rattle.machine.specs.Fractals.{sameMark, beyond};
 ghost use Rattle.check_bi.specs.Scan.{fxAt, valueOf, topOf, bottomOf, candidateOf, cutWith, closesOf, uptoWith, putOf, noFx, blank, openedOf, takeOf, stepOf, Small, scanOf, holdsOf, foundIf, foundOf};
 ghost use Rattle.check_bi.specs.View.{view, candleFrom, candles};
+ghost use Rattle.check_bi.specs.Windows.{rowAt, fractalAt, NextFractal};
 use machine::Mark;
 
 // Of a merged bar, what fractals and strokes are found by.
@@ -350,6 +351,50 @@ fn holds(a: Fx, b: Fx) -> bool
     false
 }
 
+// The high and low of row i, as a candle without its time.
+fn row_at(ps: &[[f64; 6]], i: usize) -> Candle
+    requires { ⌜ i < length (now ps) ⌝ }
+    ensures { λ r. ⌜ r ≡ rowAt (now (ps .entry)) i ⌝ }
+{
+    let p = ps[i];
+    Candle {
+        time: 0,
+        high: p[2],
+        low: p[3],
+    }
+}
+
+// Whether the window at row i is a top or a bottom.
+fn is_fractal(ps: &[[f64; 6]], i: usize) -> bool
+    requires { ⌜ (i + 2 < length (now ps)) × (i < 4294967296) ⌝ }
+    ensures { λ r. ⌜ r ≡ fractalAt (now (ps .entry)) i ⌝ }
+{
+    let a = row_at(ps, i);
+    let b = row_at(ps, i + 1);
+    let c = row_at(ps, i + 2);
+    if is_top(a, b, c) {
+        return true;
+    }
+    is_bottom(a, b, c)
+}
+
+// The first window of the first n rows, from row i on, that is a top or a bottom. Most windows are neither, and the scan,
+// which is large, is not moved for them.
+fn next_fractal(ps: &[[f64; 6]], n: usize, i: usize) -> usize
+    requires { ⌜ (n ≤ length (now ps)) × (n < 4294967296) × (i < 4294967296) ⌝ }
+    ensures { λ r. ⌜ NextFractal (now (ps .entry)) n i r ⌝ }
+{
+    let mut j = i;
+    while j + 2 < n {
+        if is_fractal(ps, j) {
+            return j;
+        } else {
+            j += 1;
+        }
+    }
+    j
+}
+
 // All windows of the view from place lo on. Places are counted from there.
 pub fn scan_from(
     ts: &[i64],
@@ -369,15 +414,13 @@ pub fn scan_from(
     if total < lo + 2 {
         return s;
     }
-    let mut a = candle_at(ts, ps, us, qs, n, m, lo);
-    let mut b = candle_at(ts, ps, us, qs, n, m, lo + 1);
-    let mut i = 0;
-    while lo + i + 2 < total {
-        let c = candle_at(ts, ps, us, qs, n, m, lo + i + 2);
-        s = step(s, i, a, b, c);
-        a = b;
-        b = c;
-        i += 1;
+    let mut at = next_fractal(ps, n, lo);
+    while at + 2 < total {
+        let a = candle_at(ts, ps, us, qs, n, m, at);
+        let b = candle_at(ts, ps, us, qs, n, m, at + 1);
+        let c = candle_at(ts, ps, us, qs, n, m, at + 2);
+        s = step(s, at - lo, a, b, c);
+        at = next_fractal(ps, n, at + 1);
     }
     s
 }

@@ -14,7 +14,7 @@ use Rattle.machine.specs.declared.Mark.the-variants.{D, G}
 use Rattle.bars.specs.Merging.{united, contains, mergedUp, mergedDown, settle, removeInclude, mergeIn}
 use Rattle.machine.proofs.Facts.{shape}
 use Rattle.bars.specs.Questions.{isBar, isPrice, question5, question6, question7, question8, leastPrice, mostPrice}
-use Rattle.arith.proofs.FloatOrder.{at-most, le-of, Number, decide, contra, lt-left, lt-right, lt-asym}
+use Rattle.arith.proofs.FloatOrder.{at-most, le-of, Number, decide, contra, lt-left, lt-right, lt-asym, lt-le}
 use Rattle.machine.proofs.MergingKeepsFractal.{top-of, of-top, bottom-of, of-bottom}
 use Rattle.arith.proofs.MaxMin.{lt-max-left, min-lt-left}
 use Rattle.machine.proofs.GrownBars.{Grown, first, next, Over, same, more}
@@ -60,9 +60,6 @@ and-false : (a b : Bool) → T a → T (not (a && b)) → T (not b)
 and-false true b h k = k
 and-false false b h k = absurd h
 
-le-lt : (x y : Float) → T (lt x y) → T (le x y)
-le-lt x y h = elim (le-or-lt x y (lt-left x y h) (lt-right x y h)) [ inl l ↦ l | inr l ↦ absurd (lt-asym x y h l) ]
-
 not-le-lt : (x y : Float) → Number x → Number y → T (not (le x y)) → T (lt y x)
 not-le-lt x y n o h = elim (le-or-lt x y n o) [ inl l ↦ contra (le x y) l h | inr l ↦ l ]
 
@@ -78,7 +75,7 @@ apart-if a b n o h k (inl p) (inl q) =
     absurd (lt-asym (a .low) (b .low) x y)
 apart-if a b n o h k (inl p) (inr q) = inl (record { high = q; low = not-le-lt (b .low) (a .low) (o .low) (n .low) (and-false (le (a .high) (b .high)) (le (b .low) (a .low)) p h) })
 apart-if a b n o h k (inr p) d =
-    let q = le-lt (b .high) (a .high) p in
+    let q = lt-le (b .high) (a .high) p in
     inr (record { high = p; low = not-le-lt (a .low) (b .low) (n .low) (o .low) (and-false (le (b .high) (a .high)) (le (a .low) (b .low)) q k) })
 
 apart : (a b : Bar) → Numbered a → Numbered b → T (not (contains a b)) → Rises a b ⊎ Rises b a
@@ -123,10 +120,10 @@ put-apart m h z y n w e =
 
 -- ---- a bar that goes on merging behind z
 
-long : {A : Type 0} (a b c d e : A) → c ∷ d ∷ e ∷ [] ≡ a ∷ b ∷ [] → ⊥
+pub long : {A : Type 0} (a b c d e : A) → c ∷ d ∷ e ∷ [] ≡ a ∷ b ∷ [] → ⊥
 long a b c d e h = nil≢cons (sym (tail-eq-of-cons-eq (tail-eq-of-cons-eq h)))
 
-bar-of : (z x c : Merged) → z ∷ x ∷ [] ≡ z ∷ c ∷ [] → x ≡ c
+pub bar-of : (z x c : Merged) → z ∷ x ∷ [] ≡ z ∷ c ∷ [] → x ≡ c
 bar-of z x c e = head-eq-of-cons-eq (tail-eq-of-cons-eq e)
 
 up-if : (z m c : Merged) (y : Bar) (u d i : Bool) → Rises (z .bar) (m .bar) → T u → z ∷ settle u d i m y ≡ z ∷ c ∷ [] → Rises (z .bar) (c .bar)

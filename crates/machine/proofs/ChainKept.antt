@@ -21,10 +21,10 @@ use Rattle.machine.proofs.Facts.{Begins}
 use Rattle.machine.specs.Rising.{Rising}
 use Rattle.machine.proofs.Lists.{All-right}
 use Rattle.machine.proofs.FractalWindows.{Window, cut-window, window-shaped}
-use Rattle.machine.proofs.MadeStroke.{Facts, facts, MadeFrom, nothingFound, check-outcome}
+use Rattle.machine.proofs.MadeStroke.{Facts, facts, MadeFrom, check-outcome}
 use Rattle.machine.proofs.MergingKeepsOrder.{Ordered, Upto, Below, ordered-rising, ordered-right, ordered-from, All-from, merge-ordered, upto-merged}
 use Rattle.machine.proofs.StrokesChain.{pre, follow, Link, Chain, chain-merged, follow-merged, follow-snoc, chain-put, chain-took, joined-is, made-whole, made-link, last-snoc}
-use Rattle.machine.proofs.FewerFractals.{In, in-all}
+use Rattle.machine.proofs.FewerFractals.{In, in-all, nothingFound}
 
 abbrev time : Merged → ℤ
 time k = k .bar .time

@@ -19,7 +19,8 @@ use Rattle.machine.proofs.Lists.{All-append, All-left, All-right, All-k
 use Rattle.machine.proofs.MergingKeepsOrder.{All-from}
 use Rattle.machine.proofs.StrokesChain.{last-snoc}
 use Rattle.machine.proofs.ChainKept.{cut-all}
-use Rattle.machine.proofs.MadeStroke.{MadeFrom, nothingFound, check-outcome}
+use Rattle.machine.proofs.MadeStroke.{MadeFrom, check-outcome}
+use Rattle.machine.proofs.FewerFractals.{nothingFound}
 
 -- the stroke that is made
 abbrev pub strokeMade : (l : List Merged) (f : Found) → MadeFrom l f → Stroke

@@ -24,6 +24,7 @@ use Rattle.machine.specs.Fractals.{Fractal, Placed, timeOf, fxOf, sameMa
 use Rattle.machine.specs.Strokes.{Stroke, Found, candidate, bestIf, best, endOf, startBest, holds, fitsMin, strokeAt, madeAt, foundTo, foundIn, checkBi, cutTo, cut}
 use Rattle.machine.proofs.Lists.{keep-yes, keep-no, keep-none, All-map, All-zip, All-left, All-right, All-keep}
 use Rattle.machine.proofs.Places.{fractal, placed-are, Stands, Ascend, next, placed-stand, placed-ascend, fits, ascend-weaken, ascend-from, Holds, end-all, start-all}
+use Rattle.machine.proofs.Marks.{both-other, sameMark-refl}
 
 -- ---- what checkBi finds
 
@@ -43,14 +44,9 @@ pub record MadeFrom (minimum : ℕ) (l : List Merged) (f : Found) : Type 0 where
   pub fits : T (fitsMin minimum (strokeAt l (start ∷ others) start end))
   pub found : f ≡ record { stroke = some (strokeAt l (start ∷ others) start end); rest = drop (end .place) l }
 
-same-itself : (m : Mark) → sameMark m m ≡ true
-unfolding sameMark
-same-itself D = refl
-same-itself G = refl
-
 pub not-itself : (s : Fractal) → T (not (candidate s s))
 unfolding candidate
-not-itself s = rw (same-itself (s .mark)) tt
+not-itself s = rw (sameMark-refl (s .mark)) tt
 
 made-if : (t : Bool) (l : List Merged) (e : Placed) (b : Stroke)
     → (madeAt t l e b ≡ nothingFound l) ⊎ (T t × (madeAt t l e b ≡ record { stroke = some b; rest = drop (e .place) l }))
@@ -214,7 +210,7 @@ fractals-alternate p (a ∷ []) = tt
 fractals-alternate p (a ∷ b ∷ []) = tt
 fractals-alternate p (a ∷ b ∷ c ∷ l) = alternate-by p (checkFx a b c) (λ q. fxsAfter q (b ∷ c ∷ l)) (λ q. fractals-alternate q (b ∷ c ∷ l))
 
-alternate-front : (p : Option Mark) (l r : List Fractal) → Alternate p (l ++ r) → Alternate p l
+pub alternate-front : (p : Option Mark) (l r : List Fractal) → Alternate p (l ++ r) → Alternate p l
 alternate-front p [] r a = tt
 alternate-front p (x ∷ l) r a = (a .0, alternate-front (some (x .mark)) l r (a .1))
 
@@ -316,15 +312,6 @@ module _ {A : Type 0} (at : A → Fractal) (m : Mark) where
 pub candidate-other : (s x : Fractal) → T (candidate s x) → T (not (sameMark (s .mark) (x .mark)))
 unfolding candidate
 candidate-other s x h = and-l (not (sameMark (s .mark) (x .mark))) (ltZ (timeOf s) (timeOf x) && beyond (x .mark) (fxOf x) (fxOf s)) h
-
-both-other : (a b c : Mark) → T (not (sameMark a b)) → T (not (sameMark a c)) → c ≡ b
-unfolding sameMark
-both-other D D c h k = absurd h
-both-other D G D h k = absurd k
-both-other D G G h k = refl
-both-other G D D h k = refl
-both-other G D G h k = absurd k
-both-other G G c h k = absurd h
 
 pub end-first : (s : Placed) (c : List Placed) (e : Placed) → All (λ y. T (candidateAt s y)) c → All (λ y. Number (fxOf (y .fractal))) c → endOf fractal c ≡ some e
     → FirstMost fractal (e .fractal .mark) e c

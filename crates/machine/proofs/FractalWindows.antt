@@ -17,9 +17,10 @@ use Rattle.machine.specs.ByTime.{from}
 use Rattle.machine.proofs.Facts.{shape, RisingFx}
 use Rattle.machine.specs.Rising.{Rising}
 use Rattle.arith.proofs.FloatOrder.{Number, lt-left, lt-right}
-use Rattle.machine.proofs.Lists.{keep-yes, keep-none, skip-yes, skip-no, All-map}
+use Rattle.machine.proofs.Lists.{keep-yes, keep-none, All-map}
 use Rattle.machine.proofs.MergingKeepsFractal.{top-of, bottom-of}
 use Rattle.machine.proofs.Times as times
+use Rattle.machine.proofs.Places.{from-skip, from-stop}
 
 -- f is the window a, b, c
 pub record At (f : Fractal) (a b c : Merged) : Type 0 where
@@ -123,14 +124,6 @@ pub record Cut (e : Fractal) (l : List Merged) : Type 0 where
   pub from-left : from (time (e .left)) l ≡ e .left ∷ e .mid ∷ e .right ∷ after
   pub from-mid : from (time (e .mid)) l ≡ e .mid ∷ e .right ∷ after
   pub up-to : keepIf (λ k. leZ (time k) (time (e .right))) l ≡ before ++ e .left ∷ e .mid ∷ e .right ∷ []
-
-pub from-skip : (t : ℤ) (x : Merged) (l : List Merged) → T (ltZ (time x) t) → from t (x ∷ l) ≡ from t l
-unfolding from
-from-skip t x l h = skip-yes (λ k. ltZ (k .bar .time) t) x l h
-
-pub from-stop : (t : ℤ) (x : Merged) (l : List Merged) → T (leZ t (time x)) → from t (x ∷ l) ≡ x ∷ l
-unfolding from
-from-stop t x l h = skip-no (λ k. ltZ (k .bar .time) t) x l (times.le-not-lt (time x) t h)
 
 cut-here : (e : Fractal) (l : List Merged) → Rising (e .left ∷ e .mid ∷ e .right ∷ l) → Cut e (e .left ∷ e .mid ∷ e .right ∷ l)
 cut-here e l r =

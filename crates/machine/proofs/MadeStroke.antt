@@ -25,7 +25,7 @@ use Rattle.machine.proofs.Lists.{keep-yes, keep-no, keep-none, All-map,
 use Rattle.machine.proofs.EndFirstExtreme.{FirstBest, Known, among}
 use Rattle.machine.proofs.FractalWindows.{Window, Spaced, fxs-windows, fxs-spaced, spaced-rising, window-rises, window-number}
 use Rattle.machine.proofs.Times as times
-use Rattle.machine.proofs.FewerFractals.{In, in-all, keep-pass, Alternate, fractals-alternate, Of, best-first, candidate-other, not-itself}
+use Rattle.machine.proofs.FewerFractals.{In, in-all, keep-pass, Alternate, fractals-alternate, Of, best-first, candidate-other, not-itself, alternate-front, nothingFound}
 
 abbrev time : Merged → ℤ
 time k = k .bar .time
@@ -154,9 +154,6 @@ end-first s (f ∷ l) e a n q =
     let F : FirstBest (f .mark) e (f ∷ l) = subst (λ z. FirstBest (f .mark) z (f ∷ l)) b (best-first (λ x. x) (f .mark) f l (C .0) (C .1)) in
     subst (λ m. FirstBest m e (f ∷ l)) (sym ((in-all (Of (f .mark)) e (f ∷ l) C (best-in (f .mark) e (f ∷ l) F)) .marked)) F
 
-abbrev pub nothingFound : List Merged → Found
-nothingFound l = record { stroke = none; rest = l }
-
 pub record MadeFrom (l : List Merged) (f : Found) : Type 0 where
   pub start : Fractal
   pub end : Fractal
@@ -200,10 +197,6 @@ unfolding checkBiByTime checkFxs
 check-outcome minimum l = found-among minimum l (checkFxs l) refl (All-map (fxsAfter none l) (λ f w. window-number f l w) (fxs-windows none l))
 
 -- ---- the stroke that is made
-
-alternate-left : (p : Option Mark) (l r : List Fractal) → Alternate p (l ++ r) → Alternate p l
-alternate-left p [] r a = tt
-alternate-left p (x ∷ l) r a = (a .0, alternate-left (some (x .mark)) l r (a .1))
 
 -- what is known of the fractals of a list of bars whose times rise
 pub record Facts (l : List Merged) (fs : List Fractal) : Type 0 where
@@ -254,7 +247,7 @@ module _ (l : List Merged) (r : Rising l) (s e : Fractal) (fs : List Fractal) (F
 
   pub alternates : Alternate none (s ∷ inner .before ++ e ∷ inner .more)
   alternates =
-      alternate-left none (s ∷ inner .before ++ e ∷ inner .more) (inner .rest)
+      alternate-front none (s ∷ inner .before ++ e ∷ inner .more) (inner .rest)
       (subst (λ z. Alternate none (s ∷ z)) (inner .whole ∙ sym (append-assoc (inner .before) (e ∷ inner .more) (inner .rest))) (F .alternate))
 
   pub stroke-fractals : (strokeOf l (s ∷ fs) s e) .fractals ≡ s ∷ inner .before ++ e ∷ inner .more

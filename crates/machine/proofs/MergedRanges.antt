@@ -18,7 +18,7 @@ use Rattle.machine.proofs.MergingKeepsOrder.{Unites, merge-all}
 
 -- ---- sums from zero up
 
-from-zero : (x : Float) → T (fromZero x) → NonNeg x
+pub from-zero : (x : Float) → T (fromZero x) → NonNeg x
 unfolding fromZero le lt eq zeroFloat hasMinus
 from-zero nan h = h
 from-zero (inf true) h = h

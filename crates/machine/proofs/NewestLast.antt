@@ -27,8 +27,9 @@ use Rattle.bars.specs.Questions.{question9}
 use Rattle.machine.specs.Soundness.{endsOn, closes, newestIn, newestLast}
 use Rattle.arith.proofs.FloatOrder.{decide}
 use Rattle.machine.proofs.MergingKeepsFractal.{merge-head}
-use Rattle.machine.proofs.FractalWindows.{Window, cut-window, from-skip, from-stop}
-use Rattle.machine.proofs.MadeStroke.{Facts, facts, MadeFrom, nothingFound, check-outcome}
+use Rattle.machine.proofs.Places.{from-skip, from-stop}
+use Rattle.machine.proofs.FractalWindows.{Window, cut-window}
+use Rattle.machine.proofs.MadeStroke.{Facts, facts, MadeFrom, check-outcome}
 use Rattle.machine.proofs.MergingKeepsOrder.{Ordered, ordered-rising}
 use Rattle.machine.proofs.ChainKept.{start-in, cut-ordered}
 use Rattle.machine.proofs.StrokesBefore.{Inv}
@@ -38,7 +39,7 @@ use Rattle.machine.proofs.StrokesMeet.{last-append}
 use Rattle.machine.proofs.ElementsNamed.{same-refl}
 use Rattle.machine.proofs.StrokesBeforeKept as steps
 use Rattle.machine.proofs.Times as times
-use Rattle.machine.proofs.FewerFractals.{in-all}
+use Rattle.machine.proofs.FewerFractals.{in-all, nothingFound}
 
 abbrev time : Merged → ℤ
 time k = k .bar .time

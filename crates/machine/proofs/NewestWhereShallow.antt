@@ -4,7 +4,7 @@
 use Prim.Native.Nat.{ℕ}
 use native.Mathlib.Omega.{arith}
 use mathlib.Core.Path.{_≡_, refl, ap, sym, _∙_, subst}
-use mathlib.Core.Bool.{Bool, true, false, not, _&&_, _||_, cond}
+use mathlib.Core.Bool.{Bool, true, false, not, _&&_, cond}
 use mathlib.Core.List.{List, [], _∷_, _++_, append-assoc}
 use mathlib.Core.Option.{Option, none, some}
 use mathlib.Core.Logic.{_⊎_, inl, inr}
@@ -26,16 +26,16 @@ use Rattle.machine.proofs.MachineByTime.{moveSome, move, dropEarly, fin
 use Rattle.machine.specs.Rising.{Rising}
 use Rattle.bars.specs.Questions.{question9, isBar}
 use Rattle.machine.specs.Soundness.{names, sameTime, endsOn, closes, newestLast}
-use Rattle.arith.proofs.FloatOrder.{decide, contra}
+use Rattle.arith.proofs.FloatOrder.{decide, contra, or-r, or-e}
 use Rattle.machine.proofs.Lists.{keep-yes, keep-no, skip-yes, skip-no, All-map, All-zip, All-append, All-left, All-right}
 use Rattle.machine.proofs.FractalWindows.{Window, cut-window}
 use Rattle.machine.proofs.MadeStroke.{Facts, facts, check-outcome}
 use Rattle.machine.proofs.MergingKeepsOrder.{stamps, Upto, RisingT, ordered-rising, ordered-right}
 use Rattle.machine.proofs.StrokesChain.{last-snoc}
 use Rattle.machine.proofs.ChainKept.{start-in, cut-ordered, cut-all}
-use Rattle.machine.proofs.StrokesBefore.{Inv, ordered-follows, two-merged}
+use Rattle.machine.proofs.StrokesBefore.{Inv, ordered-follows, two-merged, trivially}
 use Rattle.machine.proofs.StrokesBeforeKept.{move-inv, shed-inv}
-use Rattle.machine.proofs.ReplacedBars.{RisingBars, Stands, Fine, Fed, fed, last-raw, last-some, start-fine, bars-last}
+use Rattle.machine.proofs.ReplacedBars.{RisingBars, Stands, Fine, Fed, fed, last-raw, last-some, start-fine, bars-last, raw-before}
 use Rattle.machine.proofs.MergedRanges.{IsMerged}
 use Rattle.machine.proofs.EventsKeep.{Keeps, move-keeps}
 use Rattle.machine.proofs.StrokeBuilt.{Built, built-keeps}
@@ -44,7 +44,7 @@ use Rattle.machine.proofs.BarsApart.{Way, Numbered, bar-numbered, over-
 use Rattle.machine.proofs.StrokesTied.{exact-map, Undo, pair-undo, next-undo, trip-undo, Firm, Solid, Post, firm-merged, exact-merged}
 use Rattle.machine.proofs.StrokesLinked.{Links, links-find, links-last, links-map, links-shed, firm-map, exact-from, One, two-one, Then, add-now, add-then, break-last-then, now-safe}
 use Rattle.machine.proofs.NewestLast.{Ends, fed-ends, move-ends, between, MayLose, NoneLost}
-use Rattle.machine.proofs.ElementsNamed.{names-more}
+use Rattle.machine.proofs.ElementsNamed.{names-more, names-if}
 use Rattle.machine.proofs.TimeFloor.{last-elements, joined-two}
 use Rattle.machine.proofs.ReachedWell.{Called, Kept, Well, fed-kept, feed-well, start-well}
 use Rattle.machine.proofs.NewestWhereLater.{newest-unless-lost}
@@ -86,26 +86,10 @@ unfolding keepIf
 keep-snoc-yes p [] b h a = keep-yes p b [] h
 keep-snoc-yes p (x ∷ l) b h a = keep-no p x (l ++ b ∷ []) (a .0) ∙ keep-snoc-yes p l b h (a .1)
 
-or-elim : (a b : Bool) → T (a || b) → T a ⊎ T b
-or-elim true b h = inl tt
-or-elim false b h = inr h
-
-or-right : (a b : Bool) → T b → T (a || b)
-or-right true b h = tt
-or-right false b h = h
-
-or-left : (a b : Bool) → T a → T (a || b)
-or-left true b h = tt
-
-names-if : (x : Bar) (l m : List Bar) (t : ℤ) → T (sameTime (x .time) t) ⊎ T (names l t) → (T (names l t) → T (names m t)) → T (names (x ∷ m) t)
-unfolding names some-of
-names-if x l m t (inl h) f = or-left (sameTime (x .time) t) (names m t) h
-names-if x l m t (inr h) f = or-right (sameTime (x .time) t) (names m t) (f h)
-
 names-less : (l : List Bar) (b : Bar) (t : ℤ) → T (ltZ t (b .time)) → T (names (l ++ b ∷ []) t) → T (names l t)
 unfolding names some-of sameTime
-names-less [] b t h k = elim (or-elim (sameTime (b .time) t) false k) [ inl s ↦ contra (leZ (b .time) t) (and-l (leZ (b .time) t) (leZ t (b .time)) s) (times.lt-not-le (b .time) t h) | inr n ↦ n ]
-names-less (x ∷ l) b t h k = names-if x (l ++ b ∷ []) l t (or-elim (sameTime (x .time) t) (names (l ++ b ∷ []) t) k) (names-less l b t h)
+names-less [] b t h k = elim (or-e (sameTime (b .time) t) false k) [ inl s ↦ contra (leZ (b .time) t) (and-l (leZ (b .time) t) (leZ t (b .time)) s) (times.lt-not-le (b .time) t h) | inr n ↦ n ]
+names-less (x ∷ l) b t h k = names-if x (l ++ b ∷ []) l t (or-e (sameTime (x .time) t) (names (l ++ b ∷ []) t) k) (names-less l b t h)
 
 part-later : (raw : List Bar) (b z : Bar) → T (ltZ (z .time) (b .time)) → Part raw z → Part (raw ++ b ∷ []) z
 part-later raw b z h p = ((λ n. keep-snoc-no (near z) raw b (not-near z b h) ∙ p .0 (names-less raw b (z .time) h n)), p .1)
@@ -124,7 +108,7 @@ part-new q b a ok = ((λ n. keep-snoc-yes (near b) q b (and-i (leZ (b .time) (b 
 names-late : (l : List Bar) (u t : ℤ) → All (λ x. T (leZ u (x .time))) l → T (names l t) → T (leZ u t)
 unfolding names some-of sameTime
 names-late [] u t a h = absurd h
-names-late (x ∷ l) u t a h = elim (or-elim (sameTime (x .time) t) (names l t) h) [ inl s ↦ times.le-trans u (x .time) t (a .0) (and-l (leZ (x .time) t) (leZ t (x .time)) s) | inr n ↦ names-late l u t (a .1) n ]
+names-late (x ∷ l) u t a h = elim (or-e (sameTime (x .time) t) (names l t) h) [ inl s ↦ times.le-trans u (x .time) t (a .0) (and-l (leZ (x .time) t) (leZ t (x .time)) s) | inr n ↦ names-late l u t (a .1) n ]
 
 record Dropped (u : ℤ) (l m : List Bar) : Type 0 where
   late : All (λ x. T (leZ u (x .time))) m
@@ -138,7 +122,7 @@ dropped-if u x l (inl h) a d =
     subst (Dropped u (x ∷ l)) (sym (skip-yes (λ r. ltZ (r .time) u) x l h))
     (record {
       late = d .late;
-      named = λ t n. or-right (sameTime (x .time) t) (names l t) (d .named t n);
+      named = λ t n. or-r (sameTime (x .time) t) (names l t) (d .named t n);
       kept = λ z k. d .kept z k ∙ sym (keep-no (near z) x l (not-near' z x (times.lt-le-trans (x .time) u (z .time) h k)));
     })
 dropped-if u x l (inr h) a d =
@@ -297,19 +281,13 @@ abbrev Holds : Option Bar → State → Type 0
 Holds none s = Unit {0}
 Holds (some r) s = Held (s .raw) (r .time) (s .unfinished) (s .strokes)
 
-all-before : (raw : List Bar) (r y : Bar) → last raw ≡ some r → RisingBars raw → T (ltZ (r .time) (y .time)) → All (λ x. T (ltZ (x .time) (y .time))) raw
-all-before raw r y e a h =
-    let q = last-snoc raw r e in
-    subst (All (λ x. T (ltZ (x .time) (y .time)))) (sym q)
-    (All-append (λ x. T (ltZ (x .time) (y .time))) (init raw) (r ∷ []) (All-map (init raw) (λ x k. times.lt-trans (x .time) (r .time) (y .time) k h) (bars-last (init raw) r (subst RisingBars q a))) (h, tt))
-
 fresh-later : (o : Option Bar) (s : State) (y : Bar) → last (s .raw) ≡ o → Stands o (s .raw) (s .strokes) (s .unfinished) → T (isLater o y) → T (isBar y) → All Small (s .unfinished) → Holds o s
     → Fresh (s .raw ++ y ∷ []) (y .time) (mergeIn (s .unfinished) y) (s .strokes)
 unfolding isLater mergeIn own init
 fresh-later none s y e f h ok sm g =
     subst (λ z. Fresh (s .raw ++ y ∷ []) (y .time) (mergeIn (s .unfinished) y) z) (sym (f .0))
     (subst (λ z. Fresh (s .raw ++ y ∷ []) (y .time) (mergeIn z y) []) (sym (f .1)) (tt, tt, refl))
-fresh-later (some r) s y e f h ok sm g = later-fresh (s .raw) r (s .unfinished) (s .strokes) y (f .0) (all-before (s .raw) r y e (f .1) h) h ok sm g
+fresh-later (some r) s y e f h ok sm g = later-fresh (s .raw) r (s .unfinished) (s .strokes) y (f .0) (raw-before (s .raw) r y e (f .1) h) h ok sm g
 
 fresh-same : (u : ℤ) (o : Option Bar) (s : State) (y : Bar) → last (s .raw) ≡ o → Stands o (s .raw) (s .strokes) (s .unfinished) → T (not (isLater o y)) → T (question9 o y) → T (isBar y) → All Small (s .unfinished)
     → Kept u (s .raw) (s .unfinished) (s .strokes) → Holds o s → Fresh (init (s .raw) ++ y ∷ []) (y .time) (foldl mergeIn (init (s .unfinished)) (again (s .raw) (last (s .unfinished)) y)) (s .strokes)
@@ -401,13 +379,9 @@ shed-held true raw n l [] h = h
 shed-held true raw n l (b ∷ bs) h = (h .0, links-shed (Part raw) n (Firm (Part raw)) b bs l (h .1), h .2, h .3)
 shed-held false raw n l bs h = h
 
-all-unit : (l : List ℤ) → All (λ t. Unit {0}) l
-all-unit [] = tt
-all-unit (t ∷ l) = (tt, all-unit l)
-
 all-units : (l : List Merged) → All (λ k. All (λ t. Unit {0}) (k .elements)) l
 all-units [] = tt
-all-units (k ∷ l) = (all-unit (k .elements), all-units l)
+all-units (k ∷ l) = (trivially (k .elements), all-units l)
 
 drop-held : (raw : List Bar) (n : ℤ) (l : List Merged) (bs : List Stroke) → RisingBars raw → Held raw n l bs → Held (dropEarly bs raw) n l bs
 drop-held raw n l bs r h =

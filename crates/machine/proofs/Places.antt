@@ -256,11 +256,11 @@ not-later (z ∷ l) zero (suc j) x y r q h k e f = times.lt-le (time x) (time y)
 not-later (z ∷ l) (suc i) zero x y r q h k e f = absurd (omega arith)
 not-later (z ∷ l) (suc i) (suc j) x y r q h k e f = not-later l i j x y r q (h .1) (omega arith) e f
 
-from-skip : (t : ℤ) (x : Merged) (l : List Merged) → T (ltZ (time x) t) → from t (x ∷ l) ≡ from t l
+pub from-skip : (t : ℤ) (x : Merged) (l : List Merged) → T (ltZ (time x) t) → from t (x ∷ l) ≡ from t l
 unfolding from
 from-skip t x l h = skip-yes (λ k. ltZ (k .bar .time) t) x l h
 
-from-stop : (t : ℤ) (x : Merged) (l : List Merged) → T (leZ t (time x)) → from t (x ∷ l) ≡ x ∷ l
+pub from-stop : (t : ℤ) (x : Merged) (l : List Merged) → T (leZ t (time x)) → from t (x ∷ l) ≡ x ∷ l
 unfolding from
 from-stop t x l h = skip-no (λ k. ltZ (k .bar .time) t) x l (times.le-not-lt (time x) t h)
 

@@ -232,7 +232,7 @@ pub record Fed (b : Bar) (bs : List Stroke) (l : List Merged) (raw : List Bar) :
   pub rise : RisingBars raw
 
 -- all raw bars are at most the newest
-raw-before : (raw : List Bar) (r b : Bar) → last raw ≡ some r → RisingBars raw → T (ltZ (r .time) (b .time)) → All (λ x. T (ltZ (x .time) (b .time))) raw
+pub raw-before : (raw : List Bar) (r b : Bar) → last raw ≡ some r → RisingBars raw → T (ltZ (r .time) (b .time)) → All (λ x. T (ltZ (x .time) (b .time))) raw
 raw-before raw r b e a h =
     let q = last-snoc raw r e in
     subst (All (λ x. T (ltZ (x .time) (b .time)))) (sym q)

@@ -3,7 +3,7 @@
 use Prim.Native.Nat.{_≤_}
 use native.Mathlib.Omega.{arith}
 use mathlib.Core.Path.{_≡_, refl, ap, sym, _∙_, subst}
-use mathlib.Core.Bool.{Bool, true, false, not, _&&_, _||_, cond}
+use mathlib.Core.Bool.{Bool, true, false, _&&_, cond}
 use mathlib.Core.List.{List, [], _∷_, _++_, append-assoc, head-eq-of-cons-eq}
 use mathlib.Core.Option.{Option, none, some}
 use mathlib.Core.Logic.{inl, inr}
@@ -11,7 +11,7 @@ use lib.ListN.{length, length-append}
 use lib.IntN.{ℤ}
 use lib.Signed.{ltZ, leZ}
 use lib.Dec.{T, leb, le→leb}
-use lib.Ieee.{Float, lt, eq}
+use lib.Ieee.{eq}
 use lib.Ieee.Fits.{and-i}
 use Rattle.bars.specs.Lists.{All, keepIf, init, last, some-of}
 use Rattle.bars.specs.declared.Bar.{Bar}
@@ -25,7 +25,7 @@ use Rattle.machine.specs.Feed.{addFound, addMade}
 use Rattle.machine.specs.Rising.{Rising}
 use Rattle.machine.proofs.Facts.{RisingFx, shape}
 use Rattle.machine.specs.Soundness.{alternates, sameTime, sameFractal, isStroke}
-use Rattle.arith.proofs.FloatOrder.{Number, decide, lt-left, lt-right, lt-asym, eq-of}
+use Rattle.arith.proofs.FloatOrder.{Number, lt-left, lt-right, or-l, or-r, eq-refl}
 use Rattle.machine.proofs.Marks.{sameMark-refl}
 use Rattle.machine.proofs.Lists.{All-append, All-left, All-keep}
 use Rattle.machine.proofs.MergingKeepsFractal.{top-of, bottom-of}
@@ -166,29 +166,19 @@ built-keeps n =
 
 -- ---- the clause
 
-eq-itself : (x : Float) → Number x → T (eq x x)
-eq-itself x n = let h : T (not (lt x x)) = elim (decide (lt x x)) [ inl l ↦ absurd (lt-asym x x l l) | inr k ↦ k ] in eq-of x x n n h h
-
 same-itself : (f : Fractal) → Numbers f → T (sameFractal f f)
 unfolding sameFractal sameTime
 same-itself f n =
     and-i (sameTime (timeOf f) (timeOf f) && sameMark (f .mark) (f .mark)) _
     (and-i (sameTime (timeOf f) (timeOf f)) (sameMark (f .mark) (f .mark)) (and-i (leZ (timeOf f) (timeOf f)) (leZ (timeOf f) (timeOf f)) (times.le-refl (timeOf f)) (times.le-refl (timeOf f))) (rw (sameMark-refl (f .mark)) tt))
-    (and-i (eq (f .mid .bar .high) (f .mid .bar .high)) _ (eq-itself (f .mid .bar .high) (n .high))
-    (and-i (eq (f .mid .bar .low) (f .mid .bar .low)) (eq (fxOf f) (fxOf f)) (eq-itself (f .mid .bar .low) (n .low)) (eq-itself (fxOf f) (n .fx))))
-
-or-left : (a b : Bool) → T a → T (a || b)
-or-left true b h = tt
-
-or-right : (a b : Bool) → T b → T (a || b)
-or-right true b h = tt
-or-right false b h = h
+    (and-i (eq (f .mid .bar .high) (f .mid .bar .high)) _ (eq-refl (f .mid .bar .high) (n .high))
+    (and-i (eq (f .mid .bar .low) (f .mid .bar .low)) (eq (fxOf f) (fxOf f)) (eq-refl (f .mid .bar .low) (n .low)) (eq-refl (fxOf f) (n .fx))))
 
 holds-it : (p : Fractal → Bool) (f : Fractal) (l : List Fractal) → T (p f) → In f l → T (some-of p l)
 unfolding some-of
 holds-it p f [] h i = absurd i
-holds-it p f (x ∷ l) h (inl e) = or-left (p x) (some-of p l) (subst (λ z. T (p z)) (sym e) h)
-holds-it p f (x ∷ l) h (inr i) = or-right (p x) (some-of p l) (holds-it p f l h i)
+holds-it p f (x ∷ l) h (inl e) = or-l (p x) (some-of p l) (subst (λ z. T (p z)) (sym e) h)
+holds-it p f (x ∷ l) h (inr i) = or-r (p x) (some-of p l) (holds-it p f l h i)
 
 alternates-of : (p : Option Mark) (l : List Fractal) → Alternate p l → T (alternates p l)
 unfolding alternates

@@ -19,7 +19,8 @@ use Rattle.machine.proofs.MachineByTime.{joined}
 use Rattle.machine.specs.Rising.{Rising}
 use Rattle.machine.proofs.Facts.{Good}
 use Rattle.machine.proofs.Lists.{All-map, All-zip, All-append, All-left, All-right}
-use Rattle.machine.proofs.FractalWindows.{Window, from-skip, from-stop, window-left, window-mid}
+use Rattle.machine.proofs.Places.{from-skip, from-stop}
+use Rattle.machine.proofs.FractalWindows.{Window, window-left, window-mid}
 use Rattle.machine.proofs.MergingKeepsFractal.{merge-head}
 use Rattle.machine.proofs.MergingKeepsOrder.{stamps, Under, Upto, Before, Ordered, Below, ordered-from, All-from, merge-ordered, upto-merged, merge-all, settle-all, united-stamps, Unites, pick}
 use Rattle.arith.proofs.FloatOrder.{contra, decide}
@@ -44,7 +45,7 @@ ordered-append (x ∷ p) q o r f = (
   ordered-append p q (o .2) r (All-map q (λ y h. All-map (stamps y) (λ v k. k .1) h) f),
 )
 
-trivially : (l : List ℤ) → All (λ v. Unit {0}) l
+pub trivially : (l : List ℤ) → All (λ v. Unit {0}) l
 trivially [] = tt
 trivially (t ∷ l) = (tt, trivially l)
 

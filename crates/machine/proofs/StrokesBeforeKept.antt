@@ -21,13 +21,14 @@ use Rattle.machine.specs.Rising.{Rising}
 use Rattle.machine.proofs.Lists.{All-map, All-append}
 use Rattle.machine.proofs.FractalWindows.{Window, Cut, cut-window, window-left, window-rises}
 use Rattle.machine.proofs.EndFirstExtreme.{FirstBest}
-use Rattle.machine.proofs.MadeStroke.{Facts, facts, end-window, end-candidate, candidate-later, made-good, MadeFrom, nothingFound, check-outcome}
+use Rattle.machine.proofs.MadeStroke.{Facts, facts, end-window, end-candidate, candidate-later, made-good, MadeFrom, check-outcome}
 use Rattle.machine.proofs.MergingKeepsOrder.{Upto, Ordered, ordered-rising, ordered-left, ordered-from, All-from}
 use Rattle.machine.proofs.StrokesChain.{init-two, last-snoc}
 use Rattle.machine.proofs.ChainKept.{cut-ordered, cut-all}
 use Rattle.machine.proofs.StrokesBefore.{Follows, ordered-follows, back, Side, Two, Own, Sides, Inv, inv-took, windows-order, window-from, from-from, side-suffix, side-left, sides-put}
 use Rattle.arith.proofs.FloatOrder.{contra}
 use Rattle.machine.proofs.Times as times
+use Rattle.machine.proofs.FewerFractals.{nothingFound}
 
 abbrev pub time : Merged → ℤ
 time k = k .bar .time

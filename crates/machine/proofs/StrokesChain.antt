@@ -24,7 +24,8 @@ use Rattle.machine.specs.KeptStrokes.{Meets}
 use Rattle.arith.proofs.FloatOrder.{lt-asym, contra, decide}
 use Rattle.machine.proofs.Lists.{cond-yes, cond-no}
 use Rattle.machine.proofs.MergingKeepsFractal.{top-of, bottom-of, merge-begins}
-use Rattle.machine.proofs.FractalWindows.{Window, Cut, cut-window, window-shaped, from-skip, from-stop}
+use Rattle.machine.proofs.Places.{from-skip, from-stop}
+use Rattle.machine.proofs.FractalWindows.{Window, Cut, cut-window, window-shaped}
 use Rattle.machine.proofs.EndFirstExtreme.{FirstBest}
 use Rattle.machine.proofs.MadeStroke.{Facts, facts, end-window, made-good}
 use Rattle.machine.proofs.Times as times

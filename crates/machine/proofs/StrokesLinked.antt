@@ -22,9 +22,10 @@ use Rattle.machine.proofs.Facts.{shape}
 use Rattle.machine.specs.Rising.{Rising}
 use Rattle.arith.proofs.FloatOrder.{AtMost, at-most, decide, contra}
 use Rattle.machine.proofs.Lists.{All-map, All-left, All-right}
-use Rattle.machine.proofs.FractalWindows.{Window, Cut, window-shaped, window-rises, window-number, window-mid, from-skip, from-stop}
+use Rattle.machine.proofs.Places.{from-skip, from-stop}
+use Rattle.machine.proofs.FractalWindows.{Window, Cut, window-shaped, window-rises, window-number, window-mid}
 use Rattle.machine.proofs.EndFirstExtreme.{FirstBest}
-use Rattle.machine.proofs.MadeStroke.{best-in, kept-in, Facts, facts, end-window, end-candidate, MadeFrom, nothingFound}
+use Rattle.machine.proofs.MadeStroke.{best-in, kept-in, Facts, facts, end-window, end-candidate, MadeFrom}
 use Rattle.machine.proofs.StrokesChain.{first-is, last-snoc}
 use Rattle.machine.proofs.MergingKeepsOrder.{stamps, Upto, Ordered, ordered-rising, All-from}
 use Rattle.machine.proofs.StrokesBefore.{Two, ordered-follows}
@@ -37,7 +38,7 @@ use Rattle.machine.proofs.NewestLast.{Lost}
 use Rattle.machine.proofs.MadeStroke as made
 use Rattle.machine.proofs.StrokesBeforeKept as steps
 use Rattle.machine.proofs.Times as times
-use Rattle.machine.proofs.FewerFractals.{candidate-other}
+use Rattle.machine.proofs.FewerFractals.{candidate-other, nothingFound}
 
 abbrev time : Merged → ℤ
 time k = k .bar .time

@@ -2,7 +2,7 @@
 -- Assumes nothing.
 use mathlib.Core.Path.{_≡_, refl, ap, sym, _∙_, subst}
 use mathlib.Core.Bool.{Bool, true, false, not}
-use mathlib.Core.List.{List, [], _∷_, _++_, append-assoc, nil≢cons, head-eq-of-cons-eq, tail-eq-of-cons-eq}
+use mathlib.Core.List.{List, [], _∷_, _++_, append-assoc, nil≢cons, tail-eq-of-cons-eq}
 use mathlib.Core.Logic.{_⊎_, inl, inr}
 use lib.IntN.{ℤ}
 use lib.Signed.{ltZ, leZ}
@@ -22,14 +22,14 @@ use Rattle.arith.specs.Order.{maxOf, minOf}
 use Rattle.machine.proofs.Lists.{All-left}
 use Rattle.machine.proofs.MergingKeepsFractal.{merge-head}
 use Rattle.machine.proofs.StrokesChain.{init-snoc}
-use Rattle.machine.proofs.FractalWindows.{from-skip, from-stop}
+use Rattle.machine.proofs.Places.{from-skip, from-stop}
 use Rattle.machine.proofs.MergingKeepsOrder.{stamps, pick}
 use Rattle.arith.proofs.FloatOrder.{decide, lt-asym, lt-left, lt-right, lt-le-trans, le-lt-trans}
 use Rattle.arith.proofs.MaxMin.{le-max-left, min-le-left}
 use Rattle.machine.proofs.StrokesBefore.{Two}
 use Rattle.machine.proofs.NewestLast.{fold-snoc}
 use Rattle.machine.proofs.GrownBars.{Grown, first, next, Over, same, more, grown-over, grown-map, over-local, merge-local, fold-local, Looks, regrow, outcome, Trip, Exact, Small, trip-merged}
-use Rattle.machine.proofs.BarsApart.{Rises, Way, way-not, Numbered, put-apart, beyond-joins, within-joins, over-beyond, over-within, grown-apart}
+use Rattle.machine.proofs.BarsApart.{Rises, Way, way-not, Numbered, put-apart, beyond-joins, within-joins, over-beyond, over-within, grown-apart, long, bar-of}
 use Rattle.machine.proofs.Times as times
 
 abbrev time : Merged → ℤ
@@ -163,12 +163,6 @@ pub record Solid (P : Bar → Type 0) (n : ℤ) (s : Stroke) : Type 0 where
   pub peak : (k : Merged) → Way (s .end .mark) (s .end .mid .bar) (k .bar) → T (brokenBy s k)
 
 -- ---- a bar is merged in
-
-long : {A : Type 0} (a b c d e : A) → c ∷ d ∷ e ∷ [] ≡ a ∷ b ∷ [] → ⊥
-long a b c d e h = nil≢cons (sym (tail-eq-of-cons-eq (tail-eq-of-cons-eq h)))
-
-bar-of : (z x c : Merged) → z ∷ x ∷ [] ≡ z ∷ c ∷ [] → x ≡ c
-bar-of z x c e = head-eq-of-cons-eq (tail-eq-of-cons-eq e)
 
 -- what is above a bar merged upwards is above what it was merged of
 up-under-if : (h m z : Merged) (w y : Bar) (u d i : Bool) → Rises (h .bar) (m .bar) → T u → h ∷ settle u d i m y ≡ h ∷ z ∷ [] → Rises (z .bar) w → Rises (m .bar) w

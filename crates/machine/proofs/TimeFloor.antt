@@ -21,7 +21,8 @@ use Rattle.bars.specs.Merging.{united, mergeIn}
 use Rattle.machine.specs.Feed.{shedIf}
 use Rattle.arith.proofs.FloatOrder.{decide}
 use Rattle.machine.proofs.Lists.{All-map, All-append, All-left, All-right}
-use Rattle.machine.proofs.FractalWindows.{window-left, from-skip, from-stop}
+use Rattle.machine.proofs.Places.{from-skip, from-stop}
+use Rattle.machine.proofs.FractalWindows.{window-left}
 use Rattle.machine.proofs.MadeStroke.{MadeFrom}
 use Rattle.machine.proofs.MergingKeepsOrder.{Before, Ordered, ordered-rising, ordered-from, All-from, merge-all, united-stamps, pick}
 use Rattle.machine.proofs.ChainKept.{cut-all}

@@ -12,8 +12,9 @@ use lib.IntN.{ℤ, pos}
 use lib.Signed.{ltZ}
 use lib.Ieee.{Float, nan}
 use Rattle.bars.specs.declared.Bar.{Bar}
-use Rattle.bars.specs.Stores.{barOf, rowOf, zipWith}
-use Rattle.bars.proofs.Columns.{zip-at, zip-length}
+use Rattle.bars.specs.Bars.{rowOf}
+use Rattle.stores.specs.Stores.{barOf, zipWith}
+use Rattle.stores.proofs.Columns.{zip-at, zip-length}
 use Rattle.machine.specs.Fractals.{Fractal, timeOf}
 use Rattle.strokes.specs.Stored.{FractalStore, fractalStore, rowBar, fractalOf, rowFractal, storedFractals, noFractal, total}
 use Rattle.strokes.specs.StrokeStore.{stampsOf, pricesOf, stampRow, priceRow, RoomFractals, Fewer, pasted, putFractals}
@@ -21,6 +22,7 @@ use Rattle.strokes.proofs.StoredStrokes.{total-step}
 use Rattle.reports.specs.declared.fx_list.Listed.{Listed}
 use Rattle.reports.specs.FractalList.{isAfter, listIf, laterThan}
 use Rattle.reports.specs.FxListing.{lastTime, timeListed, Listing, listing, storeIf, stepIf, stepRow, stepFx, stepAll, CanList, strokeRows}
+use Rattle.reports.proofs.StrokeAt.{fewer-at}
 
 -- ---- one step
 
@@ -281,12 +283,6 @@ can-back w x [] r h = h
 can-back w x (f ∷ l) r h = can-back w (stepFx w x f) l r (can-next w x f (l ++ r) h)
 
 -- ---- the loop over the strokes
-
-fewer-at : (ns ms : List ℕ) (i : ℕ) → Fewer ns ms → i < length ns → i < length ms → getD ms i 0 ≤ getD ns i 0
-fewer-at [] ms i h a b = let z : ⊥ = omega arith in absurd z
-fewer-at (n ∷ ns) [] i h a b = let z : ⊥ = omega arith in absurd z
-fewer-at (n ∷ ns) (m ∷ ms) zero h a b = h .0
-fewer-at (n ∷ ns) (m ∷ ms) (suc i) h a b = fewer-at ns ms i (h .1) (omega arith) (omega arith)
 
 module _ (ns ms : List ℕ) (F : List Fractal) (at i : ℕ) (a : i < length ns) (b : i < length ms) where
   stroke-cons : strokeRows (drop i ns) (drop i ms) (drop at F)

@@ -1,22 +1,21 @@
 -- The two passes of get_fx_list: the first counts what is listed and leaves the output as it was, the second writes it. Assumes nothing.
-use Prim.Native.Nat.{ℕ, zero, suc, _+_, _-_, _≤_, _<_}
+use Prim.Native.Nat.{ℕ, _-_, _≤_, _<_}
 use native.Mathlib.Omega.{arith}
 use mathlib.Core.Path.{_≡_, refl, ap, sym, _∙_, subst}
 use mathlib.Core.Bool.{Bool, true, false, _&&_, cond}
 use mathlib.Core.List.{List, [], _∷_, _++_, map}
-use mathlib.Core.Option.{Option, none, some}
+use mathlib.Core.Option.{Option, none}
 use lib.ListN.{length, take, drop, getD, length-take, length-drop, length-append}
-use lib.Dec.{T, leb, le→leb, leb→le}
+use lib.Dec.{T, leb}
 use lib.IntN.{ℤ, pos}
 use lib.Ieee.{Float}
-use Rattle.bars.specs.Bars.{Merged}
-use Rattle.bars.specs.Stores.{RawStore, rawBars}
-use Rattle.machine.specs.declared.Mark.{Mark}
-use Rattle.machine.specs.Fractals.{Fractal, checkFx, checkFxs, taken, pushIf, pushed, fxsAfter}
+use Rattle.stores.specs.Stores.{RawStore, rawBars}
+use Rattle.machine.specs.Fractals.{Fractal, checkFxs}
 use Rattle.strokes.specs.declared.Stand.{Stand}
 use Rattle.strokes.specs.Stored.{FractalStore, fractalStore, storedFractals, barCounts, fractalCounts, total}
 use Rattle.strokes.specs.StrokeStore.{stampRow, priceRow, RoomFractals, Fewer, plainBar, fractalsOf, putFractals}
-use Rattle.sound.proofs.SoundScans.{yes}
+use Rattle.strokes.proofs.StoredStrokes.{length-take-most, fxs-few}
+use Rattle.sound.proofs.SoundScans.{and-false}
 use Rattle.reports.specs.declared.fx_list.Listed.{Listed}
 use Rattle.reports.specs.declared.fx_answer.FxListAnswer.{FxListAnswer}
 use Rattle.reports.specs.FractalList.{isAfter, laterThan}
@@ -25,6 +24,7 @@ use Rattle.reports.specs.FxAnswers.{allRows, CanGo, fitsAll, listedBy, o
 use Rattle.reports.proofs.FxLaws.{listed-all, all-append, can-front, can-back}
 use Rattle.reports.proofs.FxListed.{counted-are}
 use Rattle.reports.proofs.FxWritten.{written-are}
+use borrow.Author.Tests.{le-leb, lt-leb}
 
 -- ---- the strokes, then the unfinished bars
 
@@ -58,36 +58,12 @@ fewer-asked s u f h = h .fewer
 
 -- ---- they are few
 
-few-if : (t : Bool) (f : Fractal) (p : Option Mark) (rest : Option Mark → List Fractal) (n : ℕ) → ((q : Option Mark) → length (rest q) ≤ n) → length (pushIf t f p rest) ≤ n + 1
-unfolding pushIf
-few-if true f p rest n h = omega (arith, h (some (f .mark)))
-few-if false f p rest n h = omega (arith, h p)
-
-few-pushed : (p : Option Mark) (o : Option Fractal) (rest : Option Mark → List Fractal) (n : ℕ) → ((q : Option Mark) → length (rest q) ≤ n) → length (pushed p o rest) ≤ n + 1
-unfolding pushed
-few-pushed p none rest n h = omega (arith, h p)
-few-pushed p (some f) rest n h = few-if (taken p (f .mark)) f p rest n h
-
-fxs-few : (p : Option Mark) (l : List Merged) → length (fxsAfter p l) ≤ length l
-unfolding fxsAfter
-fxs-few p [] = omega arith
-fxs-few p (a ∷ []) = omega arith
-fxs-few p (a ∷ b ∷ []) = omega arith
-fxs-few p (a ∷ b ∷ c ∷ l) =
-    let g = few-pushed p (checkFx a b c) (λ q. fxsAfter q (b ∷ c ∷ l)) (length (b ∷ c ∷ l)) (λ q. fxs-few q (b ∷ c ∷ l)) in
-    omega arith
-
-take-most : {A : Type 0} (n : ℕ) (l : List A) → length (take n l) ≤ n
-take-most zero l = omega arith
-take-most (suc n) [] = omega arith
-take-most (suc n) (a ∷ l) = let e = take-most n l in omega arith
-
 windows-few : (u : RawStore) (n : ℕ) → length (fractalsOf u 0 n) ≤ n
 unfolding fractalsOf checkFxs
 windows-few u n =
     let X = map plainBar (rawBars u) in
     let a = fxs-few none (take n X) in
-    let b = take-most n X in
+    let b = length-take-most n X in
     omega arith
 
 strokes-few : (ns ms : List ℕ) (fs : List Fractal) → Fewer ns ms → length (strokeRows ns ms fs) ≤ total ns
@@ -98,7 +74,7 @@ strokes-few (n ∷ ns) (m ∷ ms) fs h =
     let k = h .0 in
     let a = length-append (drop 1 (take m fs)) (strokeRows ns ms (drop n fs)) in
     let b = length-drop 1 (take m fs) in
-    let d = take-most m fs in
+    let d = length-take-most m fs in
     let e = strokes-few ns ms (drop n fs) (h .1) in
     omega arith
 
@@ -139,31 +115,17 @@ count-is w d s y l z e =
 
 -- ---- question 14
 
-leb-yes : (n k : ℕ) → n ≤ k → leb n k ≡ true
-leb-yes n k h = yes (leb n k) (le→leb n k h)
-
-off : (b : Bool) → (T b → ⊥) → b ≡ false
-off true h = absurd (h tt)
-off false h = refl
-
-leb-no : (n k : ℕ) → k < n → leb n k ≡ false
-leb-no n k h = off (leb n k) (λ t. (let q = leb→le n k t in omega arith))
-
-and-false : (a : Bool) → (a && false) ≡ false
-and-false true = refl
-and-false false = refl
-
 fits-yes : (d : FractalStore) (n : ℕ) → n ≤ length (d .stamps) → n ≤ length (d .prices) → fitsAll d n ≡ true
 unfolding fitsAll
-fits-yes d n a b = λ i. leb-yes n (length (d .stamps)) a i && leb-yes n (length (d .prices)) b i
+fits-yes d n a b = λ i. le-leb n (length (d .stamps)) a i && le-leb n (length (d .prices)) b i
 
 fits-no-stamps : (d : FractalStore) (n : ℕ) → length (d .stamps) < n → fitsAll d n ≡ false
 unfolding fitsAll
-fits-no-stamps d n a = ap (λ (t : Bool). t && leb n (length (d .prices))) (leb-no n (length (d .stamps)) a)
+fits-no-stamps d n a = ap (λ (t : Bool). t && leb n (length (d .prices))) (lt-leb n (length (d .stamps)) a)
 
 fits-no-prices : (d : FractalStore) (n : ℕ) → length (d .prices) < n → fitsAll d n ≡ false
 unfolding fitsAll
-fits-no-prices d n a = ap (λ (t : Bool). leb n (length (d .stamps)) && t) (leb-no n (length (d .prices)) a) ∙ and-false (leb n (length (d .stamps)))
+fits-no-prices d n a = ap (λ (t : Bool). leb n (length (d .stamps)) && t) (lt-leb n (length (d .prices)) a) ∙ and-false (leb n (length (d .stamps)))
 
 -- ---- what list_all returns
 

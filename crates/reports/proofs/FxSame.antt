@@ -1,21 +1,23 @@
 -- What a sound stand gives get_fx_list, and that the elements of fractals' bars, which are not stored, are no part of its answer. Assumes nothing.
-use Prim.Native.Nat.{ℕ, zero, suc, _+_, _≤_, _<_}
+use Prim.Native.Nat.{ℕ, _+_, _≤_, _<_}
 use native.Mathlib.Omega.{arith}
 use mathlib.Core.Path.{_≡_, refl, ap, sym, _∙_, subst}
 use mathlib.Core.Bool.{Bool, true, false, _&&_}
-use mathlib.Core.List.{List, [], _∷_, _++_, map}
+use mathlib.Core.List.{List, [], _∷_, _++_, map, map-append}
 use mathlib.Core.Option.{Option, none, some}
 use lib.ListN.{length, take, drop, length-map}
 use lib.IntN.{ℤ}
 use lib.Ieee.{Float}
 use Rattle.bars.specs.Bars.{Merged}
-use Rattle.bars.specs.Stores.{MergedStore, SizedMerged, RoomRaw, rawPart, rawBars, mergedBars}
-use Rattle.bars.proofs.Columns.{merged-bars}
+use Rattle.stores.specs.Stores.{MergedStore, SizedMerged, RoomRaw, rawPart, rawBars, mergedBars}
+use Rattle.stores.proofs.Columns.{merged-bars}
+use Rattle.stores.proofs.KeptBars.{map-take}
 use Rattle.machine.specs.Fractals.{Fractal, timeOf, checkFxs, fxsAfter}
 use Rattle.strokes.specs.declared.Stand.{Stand}
 use Rattle.strokes.specs.Stored.{Stores, FractalStore, fractalStore, stateOf, storedFractals, barCounts, fractalCounts, bareBar, bareFractal}
 use Rattle.strokes.specs.StrokeStore.{stampsOf, pricesOf, stampRow, priceRow, plainBar, fractalsOf, pasted, putFractals}
 use Rattle.strokes.proofs.StoredFractals.{fxs-bare}
+use Rattle.strokes.proofs.StoredStrokes.{plain-bare, bare-twice}
 use Rattle.sound.specs.Question4.{question4, IsSound}
 use Rattle.sound.proofs.SoundFacts.{Facts, facts, is-sound}
 use Rattle.reports.specs.declared.fx_answer.FxListAnswer.{FxListAnswer}
@@ -25,15 +27,6 @@ use Rattle.reports.specs.FxAnswers.{allRows, CanGo, fitsAll, listedBy, o
 use Rattle.reports.proofs.FxListed.{strokes-are}
 
 -- ---- without elements
-
-bare-twice : (fs : List Fractal) → map bareFractal (map bareFractal fs) ≡ map bareFractal fs
-unfolding bareFractal bareBar
-bare-twice [] = refl
-bare-twice (f ∷ fs) = ap (λ (x : List Fractal). bareFractal f ∷ x) (bare-twice fs)
-
-bare-append : (l r : List Fractal) → map bareFractal (l ++ r) ≡ map bareFractal l ++ map bareFractal r
-bare-append [] r = refl
-bare-append (f ∷ l) r = ap (λ (x : List Fractal). bareFractal f ∷ x) (bare-append l r)
 
 bare-if : (b : Bool) (f : Fractal) (p : Option ℤ) (rest rest' : Option ℤ → List Fractal) → ((q : Option ℤ) → map bareFractal (rest q) ≡ rest' q)
     → map bareFractal (listIf b f p rest) ≡ listIf b (bareFractal f) p rest'
@@ -82,22 +75,12 @@ same-done t l l' d d' r e h =
 
 -- ---- the fractals of the unfinished bars
 
-plain-bare : (l : List Merged) → map plainBar (map (λ k. k .bar) l) ≡ map bareBar l
-unfolding plainBar bareBar
-plain-bare [] = refl
-plain-bare (k ∷ l) = ap (λ (x : List Merged). bareBar k ∷ x) (plain-bare l)
-
-bare-take : (n : ℕ) (l : List Merged) → take n (map bareBar l) ≡ map bareBar (take n l)
-bare-take zero l = refl
-bare-take (suc n) [] = refl
-bare-take (suc n) (k ∷ l) = ap (λ (x : List Merged). bareBar k ∷ x) (bare-take n l)
-
 pub fractals-are : (u : MergedStore) (n end : ℕ) → SizedMerged u n → fractalsOf (rawPart u) 0 end ≡ map bareFractal (checkFxs (take end (mergedBars u)))
 unfolding fractalsOf checkFxs
 fractals-are u n end h =
     let U = mergedBars u in
     let e : map plainBar (rawBars (rawPart u)) ≡ map bareBar U = sym (ap (map plainBar) (merged-bars u n h)) ∙ plain-bare U in
-    ap (λ (x : List Merged). fxsAfter none (take end x)) e ∙ ap (fxsAfter none) (bare-take end U) ∙ sym (fxs-bare none (take end U))
+    ap (λ (x : List Merged). fxsAfter none (take end x)) e ∙ ap (fxsAfter none) (sym (map-take bareBar end U)) ∙ sym (fxs-bare none (take end U))
 
 -- ---- of a sound stand
 
@@ -133,9 +116,9 @@ module _ (s : Stand) (m : Stores) (lb : length (s .bars) ≡ 65) (lf : length (s
       let l = strokeRows (barCounts s) (fractalCounts s) (storedFractals (m .fractals)) in
       let c = checkFxs (take (s .unfinished) (mergedBars (m .unfinished))) in
       ap (λ (x : List Fractal). map bareFractal (l ++ x)) (fractals-are (m .unfinished) (s .rooms .unfinished) (s .unfinished) (known .unfinished))
-      ∙ bare-append l (map bareFractal c)
+      ∙ map-append bareFractal l (map bareFractal c)
       ∙ ap (λ (x : List Fractal). map bareFractal l ++ x) (bare-twice c)
-      ∙ sym (bare-append l c)
+      ∙ sym (map-append bareFractal l c)
       ∙ ap (λ (x : List Fractal). map bareFractal (x ++ c)) (sym (strokes-are (barCounts s) (fractalCounts s) (mergedBars (m .strokes)) (storedFractals (m .fractals))))
 
   list-alike : map bareFractal (laterThan none (allRows s (rawPart (m .unfinished)) (m .fractals))) ≡ map bareFractal (fxListOf (stateOf s m))

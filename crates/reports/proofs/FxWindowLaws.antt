@@ -3,21 +3,19 @@ use Prim.Native.Nat.{ℕ, zero, suc, _+_, _-_, _≤_, _<_}
 use native.Mathlib.Omega.{arith}
 use mathlib.Core.Path.{_≡_, refl, ap, sym, _∙_, subst}
 use mathlib.Core.Bool.{Bool, true, false, cond}
-use mathlib.Core.List.{List, [], _∷_, _++_, map}
+use mathlib.Core.List.{List, _∷_, _++_}
 use mathlib.Core.Option.{Option, none, some}
-use lib.ListN.{length, take, drop, getD, length-map, length-take, length-drop, List·getD-map}
-use lib.Seq.{drop-cons, getD-take}
+use lib.ListN.{length, drop, getD, length-take, length-drop}
 use lib.IntN.{ℤ}
 use lib.Ieee.{Float}
 use Rattle.bars.specs.declared.Bar.{Bar}
 use Rattle.bars.specs.Bars.{Merged}
-use Rattle.bars.specs.Stores.{RawStore, RoomRaw, zipWith, barOf, rawBars, barAt}
-use Rattle.bars.proofs.Columns.{zip-longer, raw-at}
+use Rattle.stores.specs.Stores.{RawStore, RoomRaw, barAt}
 use Rattle.machine.specs.declared.Mark.{Mark}
 use Rattle.machine.specs.declared.Mark.the-variants.{D, G}
 use Rattle.machine.specs.Fractals.{Fractal, isTop, isBottom, checkFx, checkFxs, taken, pushIf, pushed, fxsAfter}
 use Rattle.strokes.specs.StrokeStore.{stampsOf, pricesOf, stampRow, priceRow, RoomFractals, plainBar, fractalsOf}
-use Rattle.strokes.proofs.StoredFractals.{plains}
+use Rattle.strokes.proofs.StoredFractals.{plains, plain-cons, none-left}
 use Rattle.reports.specs.declared.fx_windows.Window.{Window}
 use Rattle.reports.specs.declared.fx_list.Listed.{Listed}
 use Rattle.reports.specs.FxListing.{Listing, stepRow, stepFx, stepAll, CanList}
@@ -97,28 +95,6 @@ part-goes w x y e l r F q s g h = (
 
 -- ---- the loop over the windows
 
-take-longer : {A : Type 0} (n : ℕ) (l : List A) (i : ℕ) → i < n → i < length l → i < length (take n l)
-take-longer n l i h k = rw length-take (omega arith)
-
-raw-longer : (s : RawStore) (at : ℕ) → RoomRaw s (at + 1) → at < length (rawBars s)
-unfolding rawBars
-raw-longer s at h =
-    let e : at < length (zipWith barOf (s .times) (s .ids)) = zip-longer barOf (s .times) (s .ids) at (omega (arith, h .times)) (omega (arith, h .ids)) in
-    zip-longer (λ f p. f p) (zipWith barOf (s .times) (s .ids)) (s .prices) at e (omega (arith, h .prices))
-
-pub room-less : (s : RawStore) (n m : ℕ) → RoomRaw s n → m ≤ n → RoomRaw s m
-room-less s n m h k = record { times = omega (arith, h .times); ids = omega (arith, h .ids); prices = omega (arith, h .prices) }
-
-plain-cons : (s : RawStore) (end i : ℕ) → RoomRaw s end → i < end → drop i (plains s end) ≡ plainBar (barAt s i) ∷ drop (suc i) (plains s end)
-plain-cons s end i h k =
-    let r = room-less s end (i + 1) h (omega arith) in
-    let z = barAt s i in
-    let n : i < length (rawBars s) = raw-longer s i r in
-    let m : i < length (map plainBar (rawBars s)) = omega (arith, length-map (rawBars s) plainBar) in
-    drop-cons (plains s end) i (plainBar z) (take-longer end (map plainBar (rawBars s)) i k m)
-    ∙ ap (λ (x : Merged). x ∷ drop (suc i) (plains s end))
-    (getD-take end (map plainBar (rawBars s)) i (plainBar z) k ∙ List·getD-map plainBar (rawBars s) i z ∙ ap plainBar (raw-at s i z r))
-
 -- of what the code has read at place i
 module _ (r : RawStore) (end i : ℕ) (h : RoomRaw r end) (k : i + 2 < end) (a b c : Bar) (ea : a ≡ barAt r i) (eb : b ≡ barAt r (i + 1)) (ec : c ≡ barAt r (i + 2)) (w n : Window) (en : n ≡ turn w a b c) where
   window-cons : fxsAfter (markOf w) (drop i (plains r end)) ≡ foundIf (n .found) (n .last) a b c ++ fxsAfter (markOf n) (drop (i + 1) (plains r end))
@@ -147,13 +123,6 @@ module _ (r : RawStore) (end i : ℕ) (h : RoomRaw r end) (k : i + 2 < end) (a b
 pub windows-start : (r : RawStore) (end : ℕ) (m : Mark) → fxsAfter (markOf (record { begun = false; last = m; found = false })) (drop 0 (plains r end)) ≡ fractalsOf r 0 end
 unfolding fractalsOf checkFxs markOf markIf
 windows-start r end m = refl
-
-none-left : (p : Option Mark) (l : List Merged) → length l ≤ 2 → fxsAfter p l ≡ []
-unfolding fxsAfter
-none-left p [] h = refl
-none-left p (a ∷ []) h = refl
-none-left p (a ∷ b ∷ []) h = refl
-none-left p (a ∷ b ∷ c ∷ l) h = let z : ⊥ = omega arith in absurd z
 
 pub windows-done : (r : RawStore) (end i : ℕ) (p : Option Mark) (w : Bool) (x e : Listing) → end ≤ i + 2 → stepAll w x (fxsAfter p (drop i (plains r end))) ≡ e → x ≡ e
 unfolding stepAll

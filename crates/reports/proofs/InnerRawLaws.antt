@@ -6,19 +6,19 @@ use mathlib.Core.Path.{_≡_, refl, ap, sym, _∙_, subst}
 use mathlib.Core.Bool.{Bool, true, false, _&&_}
 use mathlib.Core.List.{List, [], _∷_, _++_, map, foldl, append-nil}
 use mathlib.Core.Option.{none}
-use lib.Dec.{T, leb, leb→le, le→leb}
+use lib.Dec.{T, leb}
 use lib.IntN.{ℤ}
 use lib.ListN.{length, take, drop, getD, set, length-take, length-drop, length-map, length-append, length-set, take-append-drop, drop-of-length-le}
 use lib.Seq.{take-suc-set, drop-set-lt, drop-cons, append-snoc}
 use lib.Ieee.{Float}
 use Rattle.bars.specs.declared.Bar.{Bar}
-use Rattle.bars.specs.Lists.{every, join}
+use Rattle.bars.specs.Lists.{join}
 use Rattle.bars.specs.Merging.{atTimes}
-use Rattle.bars.specs.Stores.{RawStore, rawStore, MergedStore, RoomRaw, zipWith, rawBars, mergedBars, rowOf, setBar, barAt, placeOf}
-use Rattle.bars.proofs.Columns.{zip-at, zip-longer, zip-length}
-use Rattle.machine.specs.Soundness.{isNamed, inner}
+use Rattle.bars.specs.Bars.{rowOf}
+use Rattle.stores.specs.Stores.{RawStore, rawStore, MergedStore, RoomRaw, zipWith, rawBars, setBar, barAt, placeOf}
+use Rattle.stores.proofs.Columns.{zip-at, zip-longer, zip-length}
 use Rattle.strokes.specs.declared.Stand.{Stand}
-use Rattle.strokes.specs.Stored.{Stores, strokeWith, stateOf}
+use Rattle.strokes.specs.Stored.{Stores, stateOf}
 use Rattle.strokes.specs.StrokeStore.{pasted}
 use Rattle.sound.specs.Question4.{question4}
 use Rattle.sound.specs.SoundStand.{isTime}
@@ -30,7 +30,8 @@ use Rattle.reports.specs.NamedStrokes.{strokeIn, RowsStand, cut, innerRo
 use Rattle.reports.specs.Reports.{nth, question14}
 use Rattle.reports.specs.InnerRawBars.{putBars, CanFind, namedBar, Filling, filling, putNamed, CanList, RawBarsListed, refusedBy, placesFor, listIf, listBars, rawBarsIf, rawBarsAt}
 use Rattle.reports.proofs.MeasureLaws.{inner-elements, at-times, named-place}
-use Rattle.reports.proofs.StrokeColumns.{Lends, elements-named, can-measure}
+use Rattle.reports.proofs.StrokeColumns.{Lends, elements-named, can-measure, long, two, bars-read, raw-named}
+use borrow.Author.Tests.{le-leb, lt-leb}
 
 -- ---- bars written one by one
 
@@ -190,20 +191,6 @@ rows-put s n d w l r e =
 
 -- ---- question 14
 
-leb-not : (a b : ℕ) → b < a → leb a b ≡ false
-leb-not a b h = by-test (leb a b) refl
-  where
-    by-test : (t : Bool) → leb a b ≡ t → leb a b ≡ false
-    by-test false e = e
-    by-test true e = absurd (omega (arith, leb→le a b (subst T (sym e) tt)))
-
-leb-yes : (a b : ℕ) → a ≤ b → leb a b ≡ true
-leb-yes a b h = is-true (leb a b) (le→leb a b h)
-  where
-    is-true : (t : Bool) → T t → t ≡ true
-    is-true true k = refl
-    is-true false k = absurd k
-
 and-no : (a b : Bool) → b ≡ false → (a && b) ≡ false
 and-no true b e = e
 and-no false b e = refl
@@ -211,22 +198,22 @@ and-no false b e = refl
 module _ (bs : List Bar) (d : RawStore) where
   pub places-no-times : length (d .times) < length bs → placesFor bs d ≡ false
   unfolding placesFor question14
-  places-no-times h = ap (λ (t : Bool). t && leb (length bs) (length (d .ids)) && leb (length bs) (length (d .prices))) (leb-not (length bs) (length (d .times)) h)
+  places-no-times h = ap (λ (t : Bool). t && leb (length bs) (length (d .ids)) && leb (length bs) (length (d .prices))) (lt-leb (length bs) (length (d .times)) h)
 
   pub places-no-ids : length (d .ids) < length bs → placesFor bs d ≡ false
   unfolding placesFor question14
   places-no-ids h =
       let x = leb (length bs) (length (d .times)) in
       let z = leb (length bs) (length (d .prices)) in
-      ap (λ (t : Bool). (x && t) && z) (leb-not (length bs) (length (d .ids)) h) ∙ ap (λ (t : Bool). t && z) (and-no x false refl)
+      ap (λ (t : Bool). (x && t) && z) (lt-leb (length bs) (length (d .ids)) h) ∙ ap (λ (t : Bool). t && z) (and-no x false refl)
 
   pub places-no-prices : length (d .prices) < length bs → placesFor bs d ≡ false
   unfolding placesFor question14
-  places-no-prices h = and-no (leb (length bs) (length (d .times)) && leb (length bs) (length (d .ids))) (leb (length bs) (length (d .prices))) (leb-not (length bs) (length (d .prices)) h)
+  places-no-prices h = and-no (leb (length bs) (length (d .times)) && leb (length bs) (length (d .ids))) (leb (length bs) (length (d .prices))) (lt-leb (length bs) (length (d .prices)) h)
 
   pub places-yes : RoomRaw d (length bs) → placesFor bs d ≡ true
   unfolding placesFor question14
-  places-yes h = λ i. leb-yes (length bs) (length (d .times)) (h .times) i && leb-yes (length bs) (length (d .ids)) (h .ids) i && leb-yes (length bs) (length (d .prices)) (h .prices) i
+  places-yes h = λ i. le-leb (length bs) (length (d .times)) (h .times) i && le-leb (length bs) (length (d .ids)) (h .ids) i && le-leb (length bs) (length (d .prices)) (h .prices) i
 
 -- what list_rows returns, return by return; m is the number of the elements l
 module _ (s : RawStore) (n : ℕ) (l : List ℤ) (d : RawStore) (m : ℕ) (c : m ≡ length l) where
@@ -268,20 +255,6 @@ module _ (s : Stand) (m : Stores) (i : ℕ) (r : StrokeRows) (h : Lends s m i r)
   abbrev k : MergedStore
   k = m .strokes
 
-  long : r .bars - 2 ≡ r .first + r .bars - 1 - (r .first + 1)
-  long = let f = h .stands .four in omega arith
-
-  two : 2 ≤ r .bars
-  two = let f = h .stands .four in omega arith
-
-  bars-read : (strokeIn m r) .bars ≡ take (r .bars) (drop (r .first) (mergedBars k))
-  unfolding strokeIn strokeWith
-  bars-read = refl
-
-  raw-named : T (every (isNamed (take (s .raw) (rawBars (m .raw)))) (inner (strokeIn m r)))
-  unfolding stateOf
-  raw-named = h .named
-
   -- what the code may count on
   pub can-list : CanList r (s .raw) (m .raw) (k .counts) (k .elements)
   can-list =
@@ -302,11 +275,13 @@ module _ (s : Stand) (m : Stores) (i : ℕ) (r : StrokeRows) (h : Lends s m i r)
   bars-are =
       let f = h .facts in
       let n = s .raw in
+      let enough = two s m i r h in
+      let shown = bars-read s m i r h in
       let l = elementsIn (take (r .bars - 2) (drop (r .first + 1) (k .counts))) (take (r .bars - 2) (drop (r .first + 1) (k .elements))) in
-      let all = elements-named (m .raw) n (s .rooms .raw) (f .raw) (f .few-raw) (f .rising-times) k (s .rooms .strokes) (r .first) (r .bars) (f .strokes) (h .stands .fits) two (strokeIn m r) bars-read raw-named in
-      ap (λ (x : ℕ). map (namedBar (m .raw) n) (elementsIn (take x (drop (r .first + 1) (k .counts))) (take x (drop (r .first + 1) (k .elements))))) (sym long)
+      let all = elements-named (m .raw) n (s .rooms .raw) (f .raw) (f .few-raw) (f .rising-times) k (s .rooms .strokes) (r .first) (r .bars) (f .strokes) (h .stands .fits) enough (strokeIn m r) shown (raw-named s m i r h) in
+      ap (λ (x : ℕ). map (namedBar (m .raw) n) (elementsIn (take x (drop (r .first + 1) (k .counts))) (take x (drop (r .first + 1) (k .elements))))) (sym (long s m i r h))
       ∙ sym (at-times (m .raw) n (s .rooms .raw) (f .raw) (f .few-raw) (f .rising-times) l all)
-      ∙ ap (atTimes (take n (rawBars (m .raw)))) (sym (inner-elements k (s .rooms .strokes) (r .first) (r .bars) (f .strokes) (h .stands .fits) two (strokeIn m r) bars-read))
+      ∙ ap (atTimes (take n (rawBars (m .raw)))) (sym (inner-elements k (s .rooms .strokes) (r .first) (r .bars) (f .strokes) (h .stands .fits) enough (strokeIn m r) shown))
 
 -- ---- question by question
 

@@ -9,7 +9,7 @@ use lib.ListN.{length, take, getD}
 use lib.Ieee.{Float, nan}
 use Rattle.bars.specs.Bars.{Merged}
 use Rattle.bars.specs.Lists.{last}
-use Rattle.bars.specs.Stores.{mergedBars, mergedWith, barOf}
+use Rattle.stores.specs.Stores.{mergedBars, mergedWith, barOf}
 use Rattle.machine.specs.Strokes.{Stroke}
 use Rattle.strokes.specs.declared.Stand.{Stand}
 use Rattle.strokes.specs.declared.strokes_store.LastStroke.{LastStroke}

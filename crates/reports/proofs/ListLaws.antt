@@ -13,13 +13,15 @@ use lib.Ieee.{Float, nan, inf, lt}
 use borrow.Author.Tests.{lt-ltb, le-ltb}
 use Rattle.arith.specs.Order.{maxOf, minOf}
 use Rattle.bars.specs.Bars.{Merged}
-use Rattle.bars.specs.Lists.{foldl, last, init}
-use Rattle.bars.specs.Stores.{MergedStore, SizedMerged, mergedBars, mergedWith, rawBars, zipWith, barOf, mergedStore}
+use Rattle.bars.specs.Lists.{foldl, last}
+use Rattle.stores.specs.Stores.{MergedStore, SizedMerged, mergedBars, mergedWith, rawBars, zipWith, barOf, mergedStore}
+use Rattle.stores.proofs.AgainBound.{init-length}
 use Rattle.machine.specs.declared.Direction.{Direction}
 use Rattle.machine.specs.declared.Direction.the-variants.{Up, Down}
 use Rattle.machine.specs.Strokes.{Stroke, directionOf}
 use Rattle.machine.specs.Break.{highOf, lowOf}
 use Rattle.sound.proofs.SoundReads.{Rows, no-rows, next, rows-of, merged-take, init-take}
+use Rattle.sound.proofs.SoundMeans.{length-to}
 use Rattle.reports.specs.Folds.{greatest, least}
 use Rattle.reports.specs.FractalList.{finishedIf, getFinishedBis, extends, extendsLast, lastBiExtend}
 use Rattle.reports.specs.Reports.{runOf}
@@ -27,12 +29,9 @@ use Rattle.reports.specs.ListAnswers.{finishedCount, reaches}
 
 -- ---- the finished strokes
 
-length-init : {A : Type 0} (l : List A) → length (init l) ≡ length l - 1
-length-init l = ap length (init-take l) ∙ length-take-le (length l - 1) l (omega arith)
-
 finished-first : (t : Bool) (bs : List Stroke) → take (length (finishedIf t bs)) bs ≡ finishedIf t bs
 unfolding finishedIf
-finished-first true bs = ap (λ (k : ℕ). take k bs) (length-init bs) ∙ sym (init-take bs)
+finished-first true bs = ap (λ (k : ℕ). take k bs) (init-length bs) ∙ sym (init-take bs)
 finished-first false bs = take-length bs
 
 -- they are the first so many of the kept strokes
@@ -42,7 +41,7 @@ finished-run bs l = finished-first (ltb (length l) 5) bs
 
 finished-many : (t : Bool) (bs : List Stroke) → cond t (length bs - 1) (length bs) ≡ length (finishedIf t bs)
 unfolding finishedIf
-finished-many true bs = sym (length-init bs)
+finished-many true bs = sym (init-length bs)
 finished-many false bs = refl
 
 pub finished-count : (bs : List Stroke) (l : List Merged) (k n : ℕ) → length bs ≡ k → length l ≡ n → finishedCount k n ≡ length (getFinishedBis bs l)
@@ -87,16 +86,13 @@ unfolding mergedBars rawBars zipWith
 column g r q no-rows = refl
 column g r q (next {t = t} {i = i} {p = p} {n = n} {e = e} w) = λ j. q t i p n e j ∷ column g r q w j
 
-same-long : {A B : Type 0} (n k : ℕ) (a : List A) (b : List B) → length a ≡ k → length b ≡ k → length (take n a) ≡ length (take n b)
-same-long n k a b x y = rw (length-take, length-take, x, y)
-
 pub column-read : {A : Type 0} (g : Merged → A) (r : List Float → A) → ((t i : _) (p : List Float) (n : ℕ) (e : _) → g (mergedWith (barOf t i p) n e) ≡ r p)
     → (u : MergedStore) (k n : ℕ) → SizedMerged u k → map g (take n (mergedBars u)) ≡ map r (take n (u .prices))
 column-read g r q u k n h =
     ap (map g) (merged-take n u)
     ∙ column g r q
-    (rows-of (take n (u .times)) (take n (u .ids)) (take n (u .prices)) (take n (u .counts)) (take n (u .elements)) (same-long n k (u .ids) (u .times) (h .raw .ids) (h .raw .times))
-    (same-long n k (u .prices) (u .times) (h .raw .prices) (h .raw .times)) (same-long n k (u .counts) (u .times) (h .counts) (h .raw .times)) (same-long n k (u .elements) (u .times) (h .elements) (h .raw .times)))
+    (rows-of (take n (u .times)) (take n (u .ids)) (take n (u .prices)) (take n (u .counts)) (take n (u .elements)) (length-to n k (u .ids) (u .times) (h .raw .ids) (h .raw .times))
+    (length-to n k (u .prices) (u .times) (h .raw .prices) (h .raw .times)) (length-to n k (u .counts) (u .times) (h .counts) (h .raw .times)) (length-to n k (u .elements) (u .times) (h .elements) (h .raw .times)))
 
 pub extend-none : (bs : List Stroke) (l : List Merged) → length bs ≡ 0 → false ≡ lastBiExtend bs l
 unfolding lastBiExtend extendsLast last

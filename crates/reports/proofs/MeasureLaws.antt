@@ -8,9 +8,9 @@ use mathlib.Core.List.{List, [], _∷_, _++_, map, foldl}
 use lib.ListN.{length, take, drop, getD, length-take, length-drop, drop-of-length-le}
 use lib.Seq.{drop-cons, drop-drop, getD-take, length-take-le, take-nil}
 use lib.IntN.{ℤ, pos}
-use lib.Dec.{T, ltb, leb→le}
+use lib.Dec.{T, ltb, ltb→lt}
 use lib.Ieee.{Float, fin, nan, fits, binary64, add, sub, div, eq}
-use lib.Ieee.Fits.{and-l, and-r, nan-fits}
+use lib.Ieee.Fits.{and-l, and-r, nan-fits, and-i}
 use Rattle.arith.specs.Sums.{sumOf, plus, zeroF, meanMore, fitMore, snrMore, slopeMore, meanStart, fitStart, snrStart, slopeStart, fitEnd, snrEnd, slopeEnd, accelerationOf, snrOf, slopeOf}
 use Rattle.arith.specs.declared.sums.MeanSums.{MeanSums}
 use Rattle.arith.specs.declared.sums.FitSums.{FitSums}
@@ -22,9 +22,9 @@ use Rattle.bars.specs.declared.Bar.{Bar}
 use Rattle.bars.specs.Bars.{Merged}
 use Rattle.bars.specs.Lists.{every, join, init, keepIf}
 use Rattle.bars.specs.Merging.{atTimes}
-use Rattle.bars.specs.Stores.{RawStore, MergedStore, SizedRaw, SizedMerged, rawPart, zipWith, mergedWith, barOf, barAt, rawBars, mergedBars, rising, placeOf}
-use Rattle.bars.proofs.Columns.{zip-at, zip-longer, zip-take, zip-drop, zip-length, raw-length, raw-prices, merged-bars, merged-length}
-use Rattle.bars.proofs.KeptBars.{map-take, kept-named}
+use Rattle.stores.specs.Stores.{RawStore, MergedStore, SizedRaw, SizedMerged, rawPart, zipWith, mergedWith, barOf, barAt, rawBars, mergedBars, rising, placeOf}
+use Rattle.stores.proofs.Columns.{zip-at, zip-longer, zip-take, zip-drop, zip-length, raw-length, raw-prices, merged-bars, merged-length}
+use Rattle.stores.proofs.KeptBars.{map-take, kept-named}
 use lib.Signed.{leZ}
 use Rattle.arith.specs.Order.{maxOf, minOf}
 use Rattle.machine.specs.declared.Mark.the-variants.{D, G}
@@ -39,6 +39,7 @@ use Rattle.machine.specs.Soundness.{sameTime, inner}
 use Rattle.sound.specs.SoundStand.{isTime, atPlace, namedRows}
 use Rattle.machine.proofs.Times.{le-antisym}
 use Rattle.strokes.proofs.StoredRaw.{init-take}
+use Rattle.strokes.proofs.BareStates.{map-drop}
 use Rattle.sound.proofs.SoundNames.{place-named}
 
 -- ---- the ends
@@ -108,10 +109,7 @@ pub named-place : (ts : List ℤ) (t : ℤ) → T (rising ts) → T (isTime ts t
 unfolding atPlace
 named-place ts t r h =
     let k : T (ltb (placeOf t ts) (length ts) && sameTime (getD ts (placeOf t ts) (pos 0)) t) = subst T (sym (place-named ts t r)) h in
-    below (placeOf t ts) (length ts) (and-l (ltb (placeOf t ts) (length ts)) (sameTime (getD ts (placeOf t ts) (pos 0)) t) k)
-  where
-    below : (a b : ℕ) → T (ltb a b) → a < b
-    below a b k = omega (arith, leb→le (suc a) b k)
+    ltb→lt (placeOf t ts) (length ts) (and-l (ltb (placeOf t ts) (length ts)) (sameTime (getD ts (placeOf t ts) (pos 0)) t) k)
 
 every-at : {A : Type 0} (p : A → Bool) (l : List A) (i : ℕ) (z : A) → i < length l → T (every p l) → T (p (getD l i z))
 unfolding every
@@ -138,10 +136,6 @@ module _ (row : List ℤ) (count j : ℕ) (h : j < min count (length row)) where
 pub element-end : {S : Type 0} (f : S → ℤ → S) (row : List ℤ) (count j : ℕ) (s e : S) → min count (length row) ≤ j
     → foldl f s (drop j (take count row)) ≡ e → s ≡ e
 element-end f row count j s e h k = fold-end f (take count row) j s e (omega (arith, length-take count row)) k
-
-and-i : (a b : Bool) → T a → T b → T (a && b)
-and-i true b s t = t
-and-i false b s t = absurd s
 
 -- what is left passes, so all do
 module _ (row : List ℤ) (count j : ℕ) (h : j < min count (length row)) where
@@ -277,11 +271,6 @@ module _ {A : Type 0} where
       ∙ ap (λ (m : List A). init (take (bars - 1) m)) (drop-drop 1 at l)
       ∙ init-take (bars - 1) (drop (at + 1) l) (omega arith) (omega (arith, length-drop (at + 1) l))
       ∙ ap (λ (n : ℕ). take n (drop (at + 1) l)) d
-
-map-drop : {A B : Type 0} (f : A → B) (n : ℕ) (l : List A) → map f (drop n l) ≡ drop n (map f l)
-map-drop f zero l = refl
-map-drop f (suc n) [] = refl
-map-drop f (suc n) (a ∷ l) = map-drop f n l
 
 map-part : {A B : Type 0} (f : A → B) (n m : ℕ) (l : List A) → map f (take n (drop m l)) ≡ take n (drop m (map f l))
 map-part f n m l = map-take f n (drop m l) ∙ ap (take n) (map-drop f m l)

@@ -11,7 +11,7 @@ use lib.Dec.{ltb}
 use lib.ListN.{length, getD}
 use borrow.Author.Tests.{ltb-true, ltb-false}
 use Rattle.bars.specs.declared.Bar.{Bar}
-use Rattle.bars.specs.Stores.{barOf}
+use Rattle.stores.specs.Stores.{barOf}
 use Rattle.machine.specs.declared.Mark.{Mark}
 use Rattle.machine.specs.declared.Mark.the-variants.{D, G}
 use Rattle.machine.specs.Fractals.{Fractal}

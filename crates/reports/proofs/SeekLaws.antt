@@ -5,21 +5,21 @@ use mathlib.Core.Path.{_≡_, refl, ap, sym, _∙_, subst}
 use mathlib.Core.Bool.{Bool, true, false, not, cond}
 use mathlib.Core.List.{List, [], _∷_, map}
 use mathlib.Core.Option.{Option, none, some, Option·map}
-use lib.ListN.{length, take, drop, getD, length-take, length-drop, length-map, List·getD-map}
-use lib.Seq.{drop-cons, getD-take}
+use lib.ListN.{length, take, drop, getD, length-take, length-drop}
 use Rattle.bars.specs.declared.Bar.{Bar}
 use Rattle.bars.specs.Bars.{Merged}
-use Rattle.bars.specs.Stores.{RawStore, MergedStore, RoomRaw, SizedMerged, rawPart, zipWith, barOf, rawBars, mergedBars, barAt}
-use Rattle.bars.proofs.Columns.{raw-at, zip-longer, merged-bars}
-use Rattle.bars.proofs.KeptBars.{map-take}
+use Rattle.stores.specs.Stores.{RawStore, MergedStore, RoomRaw, SizedMerged, rawPart, rawBars, mergedBars, barAt}
+use Rattle.stores.proofs.Columns.{merged-bars}
+use Rattle.stores.proofs.KeptBars.{map-take}
 use Rattle.machine.specs.declared.Mark.{Mark}
 use Rattle.machine.specs.declared.Mark.the-variants.{D, G}
 use Rattle.machine.specs.Fractals.{Fractal, sameMark, isTop, isBottom, checkFx, taken, pushIf, pushed, fxsAfter, checkFxs}
 use Rattle.strokes.specs.declared.Stand.{Stand}
 use Rattle.strokes.specs.Stored.{Stores, bareBar, bareFractal, stateOf}
 use Rattle.strokes.specs.StrokeStore.{plainBar, fractalsOf}
-use Rattle.strokes.proofs.StoredFractals.{plains, fxs-bare}
-use Rattle.strokes.proofs.StoredStrokes.{room-merged}
+use Rattle.strokes.proofs.StoredFractals.{plains, fxs-bare, plain-cons, none-left}
+use Rattle.strokes.proofs.StoredStrokes.{plain-bare}
+use Rattle.strokes.proofs.StoredUnfinished.{room-of}
 use Rattle.sound.specs.Question4.{question4}
 use Rattle.sound.proofs.SoundFits.{Fit}
 use Rattle.sound.proofs.SoundFacts.{is-sound, sound-fit}
@@ -69,25 +69,6 @@ seek-one false k a b c l h =
 
 -- ---- the loop
 
-room-less : (s : RawStore) (n m : ℕ) → RoomRaw s n → m ≤ n → RoomRaw s m
-room-less s n m h k = record { times = omega (arith, h .times); ids = omega (arith, h .ids); prices = omega (arith, h .prices) }
-
-raw-longer : (s : RawStore) (at : ℕ) → RoomRaw s (at + 1) → at < length (rawBars s)
-unfolding rawBars
-raw-longer s at h =
-    let e : at < length (zipWith barOf (s .times) (s .ids)) = zip-longer barOf (s .times) (s .ids) at (omega (arith, h .times)) (omega (arith, h .ids)) in
-    zip-longer (λ f p. f p) (zipWith barOf (s .times) (s .ids)) (s .prices) at e (omega (arith, h .prices))
-
-plain-cons : (s : RawStore) (end i : ℕ) → RoomRaw s end → i < end → drop i (plains s end) ≡ plainBar (barAt s i) ∷ drop (suc i) (plains s end)
-plain-cons s end i h k =
-    let r = room-less s end (i + 1) h (omega arith) in
-    let z = barAt s i in
-    let n : i < length (rawBars s) = raw-longer s i r in
-    let m : i < length (map plainBar (rawBars s)) = omega (arith, length-map (rawBars s) plainBar) in
-    drop-cons (plains s end) i (plainBar z) (omega (arith, length-take end (map plainBar (rawBars s))))
-    ∙ ap (λ (x : Merged). x ∷ drop (suc i) (plains s end))
-    (getD-take end (map plainBar (rawBars s)) i (plainBar z) k ∙ List·getD-map plainBar (rawBars s) i z ∙ ap plainBar (raw-at s i z r))
-
 -- what is left from place i on
 abbrev pub rest : RawStore → ℕ → ℕ → Option Mark → List Fractal
 rest r end i = λ p. fxsAfter p (drop i (plains r end))
@@ -109,13 +90,6 @@ seek-turn r end i k k' a b c ans h g ea eb ec ek e =
     ∙ sym (seek-one (k .found) k a b c (drop (suc (suc (suc i))) v) refl)
     ∙ (λ t. meant k (λ p. fxsAfter p (sym o t)))
     ∙ e
-
-none-left : (p : Option Mark) (l : List Merged) → length l ≤ 2 → fxsAfter p l ≡ []
-unfolding fxsAfter
-none-left p [] h = refl
-none-left p (a ∷ []) h = refl
-none-left p (a ∷ b ∷ []) h = refl
-none-left p (a ∷ b ∷ c ∷ l) h = let z : ⊥ = omega arith in absurd z
 
 end-if : (t : Bool) (k : Sought) (f : Option Mark → List Fractal) → f (lastSought k) ≡ [] → foundIf t (k .answers) ≡ meantIf t k f
 unfolding foundIf meantIf nth
@@ -156,11 +130,6 @@ answers-bare f = λ i. record { «power_str» = strength-bare (f .mark) f i; «p
 bare-option : (o : Option Fractal) → Option·map answersOf (Option·map bareFractal o) ≡ Option·map answersOf o
 bare-option none = refl
 bare-option (some f) = ap some (answers-bare f)
-
-plain-bare : (l : List Merged) → map plainBar (map (λ k. k .bar) l) ≡ map bareBar l
-unfolding plainBar bareBar
-plain-bare [] = refl
-plain-bare (k ∷ l) = ap (λ (x : List Merged). bareBar k ∷ x) (plain-bare l)
 
 pub sought-is : (u : MergedStore) (w n j : ℕ) → SizedMerged u w
     → Option·map answersOf (nth (fractalsOf (rawPart u) 0 n) j) ≡ Option·map answersOf (unfinishedAt (take n (mergedBars u)) j)
@@ -238,7 +207,7 @@ module _ (k : Sought) where
 pub seek-fits : (s : Stand) (m : Stores) → question4 s m ≡ true → RoomRaw (rawPart (m .unfinished)) (s .unfinished)
 seek-fits s m q =
     let f = sound-fit s m (is-sound s m q) in
-    (room-merged (m .unfinished) (s .rooms .unfinished) (s .unfinished) (f .unfinished) (f .few-unfinished)) .raw
+    (room-of (m .unfinished) (s .rooms .unfinished) (s .unfinished) (f .unfinished) (f .few-unfinished)) .raw
 
 module _ (s : Stand) (m : Stores) (j : ℕ) where
   pub unfinished-unsound : (r : FractalAnswer) → r ≡ record { failed = 4; answers = noAnswers } → question4 s m ≡ false → r ≡ unfinishedAnswersAt s m j

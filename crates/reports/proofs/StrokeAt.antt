@@ -15,15 +15,15 @@ use Rattle.bars.specs.declared.Bar.{Bar}
 use Rattle.bars.specs.Bars.{Merged}
 use Rattle.machine.specs.declared.Mark.{Mark}
 use Rattle.bars.specs.Lists.{every, some-of}
-use Rattle.bars.specs.Stores.{MergedStore, SizedMerged, mergedBars, barOf}
-use Rattle.bars.proofs.Columns.{merged-length, zip-at}
+use Rattle.stores.specs.Stores.{MergedStore, SizedMerged, mergedBars, barOf}
+use Rattle.stores.proofs.Columns.{merged-length, zip-at}
 use Rattle.machine.specs.Fractals.{Fractal}
 use Rattle.machine.specs.Strokes.{Stroke}
 use Rattle.machine.specs.Soundness.{isStroke, alternates, sameFractal}
 use Rattle.strokes.specs.declared.Stand.{Stand}
 use Rattle.strokes.specs.Stored.{Stores, FractalStore, rowBar, fractalOf, rowFractal, storedFractals, noFractal, strokeWith, strokesWith, barCounts, fractalCounts, total, stateOf}
 use Rattle.strokes.specs.StrokeStore.{SizedFractals, rowMark, Fewer, Kept, keptStrokes}
-use Rattle.strokes.proofs.StoredStrokes.{stored-length, length-take-most, kept-state}
+use Rattle.strokes.proofs.StoredStrokes.{stored-length, length-take-most, kept-state, not-empty}
 use Rattle.reports.specs.declared.stroke_rows.StrokeRows.{StrokeRows}
 use Rattle.reports.specs.declared.measures.StrokeEnd.{StrokeEnd}
 use Rattle.reports.specs.declared.fractal_answers.FractalAnswers.{FractalAnswers}
@@ -44,13 +44,13 @@ stroke-nth (n ∷ ns) (m ∷ ms) ks fs (suc i) h k =
     stroke-nth ns ms (drop n ks) (drop n fs) i (omega arith) (omega arith)
     ∙ (λ j. some (strokeWith (take (getD ms i 0) (drop-drop (total (take i ns)) n fs j)) (take (getD ns i 0) (drop-drop (total (take i ns)) n ks j))))
 
-total-part : (ns : List ℕ) (i : ℕ) → i < length ns → total (take i ns) + getD ns i 0 ≤ total ns
+pub total-part : (ns : List ℕ) (i : ℕ) → i < length ns → total (take i ns) + getD ns i 0 ≤ total ns
 unfolding total
 total-part [] i h = let w : ⊥ = omega arith in absurd w
 total-part (n ∷ ns) zero h = omega arith
 total-part (n ∷ ns) (suc i) h = let e = total-part ns i (omega arith) in omega arith
 
-fewer-at : (ns ms : List ℕ) (i : ℕ) → Fewer ns ms → i < length ns → i < length ms → getD ms i 0 ≤ getD ns i 0
+pub fewer-at : (ns ms : List ℕ) (i : ℕ) → Fewer ns ms → i < length ns → i < length ms → getD ms i 0 ≤ getD ns i 0
 fewer-at [] ms i f h k = let w : ⊥ = omega arith in absurd w
 fewer-at (n ∷ ns) [] i f h k = let w : ⊥ = omega arith in absurd w
 fewer-at (n ∷ ns) (m ∷ ms) zero f h k = f .0
@@ -121,11 +121,6 @@ module _ (s : Stand) (m : Stores) (i : ℕ) (h : i < s .strokes) (few : s .strok
   first-within = omega (arith, total-part (barCounts s) i in-bars, first-is, bars-are)
 
 -- ---- of a stand whose strokes pass
-
-not-empty : {A : Type 0} (p : A → Bool) (l : List A) → T (some-of p l) → 1 ≤ length l
-unfolding some-of
-not-empty p [] h = absurd h
-not-empty p (a ∷ l) h = omega arith
 
 module _ (s : Stand) (m : Stores) (i : ℕ) (h : i < s .strokes) (lb : length (s .bars) ≡ 65) (lf : length (s .fractals) ≡ 65) (k : Kept s (m .strokes) (m .fractals)) where
   abbrev rows : StrokeRows

@@ -15,8 +15,8 @@ use Rattle.bars.specs.declared.Bar.{Bar}
 use Rattle.bars.specs.Bars.{Merged}
 use Rattle.bars.specs.Lists.{every, join}
 use Rattle.bars.specs.Merging.{atTimes}
-use Rattle.bars.specs.Stores.{RawStore, MergedStore, SizedRaw, SizedMerged, zipWith, barOf, rawBars, mergedBars, rising}
-use Rattle.bars.proofs.KeptBars.{kept-times}
+use Rattle.stores.specs.Stores.{RawStore, MergedStore, SizedRaw, SizedMerged, zipWith, barOf, rawBars, mergedBars, rising}
+use Rattle.stores.proofs.KeptBars.{kept-times}
 use Rattle.machine.specs.Fractals.{Fractal}
 use Rattle.machine.specs.Strokes.{Stroke}
 use Rattle.machine.specs.Soundness.{barTimes, isNamed, inner, strokesPass, elementsKept, asked}
@@ -141,17 +141,17 @@ module _ (s : Stand) (m : Stores) (i : ℕ) (r : StrokeRows) (h : Lends s m i r)
   abbrev k : MergedStore
   k = m .strokes
 
-  long : r .bars - 2 ≡ r .first + r .bars - 1 - (r .first + 1)
+  pub long : r .bars - 2 ≡ r .first + r .bars - 1 - (r .first + 1)
   long = let f = h .stands .four in omega arith
 
-  two : 2 ≤ r .bars
+  pub two : 2 ≤ r .bars
   two = let f = h .stands .four in omega arith
 
-  bars-read : (strokeIn m r) .bars ≡ take (r .bars) (drop (r .first) (mergedBars k))
+  pub bars-read : (strokeIn m r) .bars ≡ take (r .bars) (drop (r .first) (mergedBars k))
   unfolding strokeIn strokeWith
   bars-read = refl
 
-  raw-named : T (every (isNamed (take n (rawBars (m .raw)))) (inner (strokeIn m r)))
+  pub raw-named : T (every (isNamed (take n (rawBars (m .raw)))) (inner (strokeIn m r)))
   unfolding stateOf
   raw-named = h .named
 

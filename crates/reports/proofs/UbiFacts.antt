@@ -12,7 +12,7 @@ use Rattle.bars.specs.declared.Bar.{Bar}
 use Rattle.bars.specs.Bars.{Merged}
 use Rattle.bars.specs.Lists.{join, last}
 use Rattle.bars.specs.Merging.{atTimes}
-use Rattle.bars.specs.Stores.{RawStore, MergedStore, RoomRaw, rawPart, rawBars, mergedBars, barAt, zipWith}
+use Rattle.stores.specs.Stores.{RawStore, MergedStore, RoomRaw, rawPart, rawBars, mergedBars, barAt, zipWith}
 use Rattle.machine.specs.declared.Direction.{Direction}
 use Rattle.machine.specs.Strokes.{Stroke, directionOf}
 use Rattle.check_bi.specs.declared.scan.Scan.{Scan}

@@ -14,8 +14,8 @@ use Rattle.bars.specs.declared.Bar.{Bar}
 use Rattle.bars.specs.Bars.{Merged, mergedOf}
 use Rattle.bars.specs.Lists.{keepIf, last, join, All}
 use Rattle.bars.specs.Merging.{atTimes}
-use Rattle.bars.specs.Stores.{RawStore, MergedStore, SizedRaw, SizedMerged, RoomRaw, RoomMerged, rawPart, rawBars, mergedBars, mergedStore, barAt, newBarAt, zipWith, rising}
-use Rattle.bars.proofs.Columns.{merged-at}
+use Rattle.stores.specs.Stores.{RawStore, MergedStore, SizedRaw, SizedMerged, RoomRaw, RoomMerged, rawPart, rawBars, mergedBars, mergedStore, barAt, newBarAt, zipWith, rising}
+use Rattle.stores.proofs.Columns.{merged-at}
 use Rattle.machine.specs.declared.Mark.{Mark}
 use Rattle.machine.specs.declared.Direction.{Direction}
 use Rattle.machine.specs.Fractals.{Fractal, Placed, checkFxs, fxsAfter, placedAfter, placedFxs}
@@ -27,8 +27,8 @@ use Rattle.check_bi.specs.Scan.{candleOf, fxAt, fxPlaced, scanOf}
 use Rattle.check_bi.specs.View.{view, candles}
 use Rattle.check_bi.proofs.ScanPlaces.{seenOf, scan-is, saw, count-means}
 use Rattle.check_bi.proofs.ScanViews.{candles-are}
-use Rattle.strokes.specs.declared.Stand.{Stand}
 use Rattle.strokes.specs.StoreSteps.{RisingRaw}
+use Rattle.strokes.proofs.StoredAgain.{keeping}
 use Rattle.sound.proofs.SoundReads.{rows-of, merged-take, merged-elements}
 use Rattle.reports.specs.declared.ubi.Extremes.{Extremes}
 use Rattle.reports.specs.declared.ubi.FractalBars.{FractalBars}
@@ -63,20 +63,6 @@ named-none raw e t q = sym (ap (foldl see e) q)
 pub named-one : (raw : List Bar) (e r : Extremes) (t : ℤ) (b : Bar) → atTimes raw (t ∷ []) ≡ b ∷ [] → r ≡ see e b → r ≡ seeAt raw e t
 unfolding seeAt
 named-one raw e r t b q p = p ∙ sym (ap (foldl see e) q)
-
--- a stand of nothing but this number of raw bars
-abbrev pub keeping : ℕ → ℕ → Stand
-keeping K n =
-    record {
-      minimum = 0;
-      most = 0;
-      rooms = record { raw = K; unfinished = 0; strokes = 0 };
-      raw = n;
-      unfinished = 0;
-      strokes = 0;
-      bars = [];
-      fractals = [];
-    }
 
 pub rises : (s : RawStore) (n : ℕ) → RisingFirst s n → RisingRaw (keeping (length (s .times)) n) s
 rises s n h = record { sized = h .sized; fits = h .fits; rise = h .rise }

@@ -17,6 +17,7 @@ use Rattle.machine.specs.Stand.{Settings, State}
 use Rattle.machine.specs.Soundness.{sameTime, names, endsOn, closes, newestIn, newestLast, soundBut, sound}
 use Rattle.reports.specs.Measures.{elementsOf}
 use Rattle.reports.specs.Unfinished.{Ubi, nonEmpty, question15, ubiFrom, getUbi}
+use Rattle.arith.proofs.FloatOrder.{or-l, or-r}
 
 -- ---- given where question 15 says yes
 
@@ -45,13 +46,6 @@ ubi-given raw l bs =
 
 -- ---- a raw bar behind the unfinished bars
 
-or-left : (a b : Bool) → T a → T (a || b)
-or-left true b h = tt
-
-or-right : (a b : Bool) → T b → T (a || b)
-or-right true b h = tt
-or-right false b h = h
-
 or-map : (a b c : Bool) → T (a || b) → (T b → T c) → T (a || c)
 or-map true b c h f = tt
 or-map false b c h f = f h
@@ -64,7 +58,7 @@ some-left q (a ∷ l) r h = or-map (q a) (some-of q l) (some-of q (l ++ r)) h (s
 some-right : {A : Type 0} (q : A → Bool) (l r : List A) → T (some-of q r) → T (some-of q (l ++ r))
 unfolding some-of
 some-right q [] r h = h
-some-right q (a ∷ l) r h = or-right (q a) (some-of q (l ++ r)) (some-right q l r h)
+some-right q (a ∷ l) r h = or-r (q a) (some-of q (l ++ r)) (some-right q l r h)
 
 -- what the last one passes, one passes
 unfoldable lastPasses : {A : Type 0} → (A → Bool) → Option A → Bool
@@ -74,8 +68,8 @@ lastPasses q (some a) = q a
 last-some : {A : Type 0} (q : A → Bool) (l : List A) → T (lastPasses q (last l)) → T (some-of q l)
 unfolding lastPasses last some-of
 last-some q [] h = h
-last-some q (a ∷ []) h = or-left (q a) false h
-last-some q (a ∷ b ∷ l) h = or-right (q a) (some-of q (b ∷ l)) (last-some q (b ∷ l) h)
+last-some q (a ∷ []) h = or-l (q a) false h
+last-some q (a ∷ b ∷ l) h = or-r (q a) (some-of q (b ∷ l)) (last-some q (b ∷ l) h)
 
 -- the time t, which ends the elements of the last unfinished bar, is among all elements
 ends-passes : (q : ℤ → Bool) (t : ℤ) (o : Option ℤ) → ((u : ℤ) → T (sameTime t u) → T (q u)) → T (endsOn t o) → T (lastPasses q o)

@@ -14,7 +14,7 @@ use Rattle.arith.specs.declared.sums.SnrSums.{SnrSums}
 use Rattle.arith.specs.declared.sums.SlopeSums.{SlopeSums}
 use Rattle.bars.specs.declared.Bar.{Bar}
 use Rattle.bars.specs.Lists.{join}
-use Rattle.bars.specs.Stores.{zipWith, placeOf}
+use Rattle.stores.specs.Stores.{zipWith, placeOf}
 use Rattle.machine.specs.Fractals.{Fractal}
 use Rattle.machine.specs.Strokes.{Stroke}
 use Rattle.machine.specs.Soundness.{inner}

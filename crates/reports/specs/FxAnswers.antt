@@ -5,7 +5,7 @@ use mathlib.Core.List.{List, _++_}
 use mathlib.Core.Path.{_≡_}
 use lib.ListN.{length}
 use lib.Dec.{leb}
-use Rattle.bars.specs.Stores.{RawStore, RoomRaw}
+use Rattle.stores.specs.Stores.{RawStore, RoomRaw}
 use Rattle.machine.specs.Fractals.{Fractal}
 use Rattle.machine.specs.Stand.{State}
 use Rattle.strokes.specs.declared.Stand.{Stand}

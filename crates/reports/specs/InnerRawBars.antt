@@ -9,7 +9,8 @@ use lib.IntN.{ℤ}
 use lib.ListN.{length, take}
 use lib.Ieee.{Float}
 use Rattle.bars.specs.declared.Bar.{Bar}
-use Rattle.bars.specs.Stores.{RawStore, rawStore, RoomRaw, barAt, rowOf, setBar, rising, placeOf}
+use Rattle.bars.specs.Bars.{rowOf}
+use Rattle.stores.specs.Stores.{RawStore, rawStore, RoomRaw, barAt, setBar, rising, placeOf}
 use Rattle.machine.specs.Strokes.{Stroke}
 use Rattle.strokes.specs.declared.Stand.{Stand}
 use Rattle.strokes.specs.Stored.{Stores, stateOf}

@@ -5,7 +5,8 @@ use mathlib.Core.List.{List, [], _∷_}
 use lib.IntN.{ℤ, pos}
 use lib.Ieee.{Float, binary64, ofInt}
 use Rattle.bars.specs.declared.Bar.{Bar}
-use Rattle.bars.specs.Stores.{rawStore, barOf, rowOf}
+use Rattle.bars.specs.Bars.{rowOf}
+use Rattle.stores.specs.Stores.{rawStore, barOf}
 use Rattle.strokes.specs.StrokeStore.{pasted}
 use Rattle.reports.specs.Reports.{question14}
 use Rattle.reports.specs.InnerRawBars.{putBars, placesFor, listIf, listBars, listed}

@@ -9,7 +9,7 @@ use lib.IntN.{ℤ, pos}
 use lib.ListN.{length, take, drop, getD}
 use lib.Ieee.{Float, fin}
 use Rattle.bars.specs.declared.Bar.{Bar}
-use Rattle.bars.specs.Stores.{mergedBars, rising}
+use Rattle.stores.specs.Stores.{mergedBars, rising}
 use Rattle.machine.specs.Strokes.{Stroke}
 use Rattle.strokes.specs.declared.Stand.{Stand}
 use Rattle.strokes.specs.Stored.{Stores, rowFractal, storedFractals, strokeWith, total, stateOf}

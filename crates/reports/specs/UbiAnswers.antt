@@ -9,7 +9,7 @@ use lib.Dec.{T}
 use lib.Ieee.{Float, fin, lt, le}
 use Rattle.bars.specs.declared.Bar.{Bar}
 use Rattle.bars.specs.Merging.{atTimes}
-use Rattle.bars.specs.Stores.{RawStore, SizedRaw, rising}
+use Rattle.stores.specs.Stores.{RawStore, SizedRaw, rising}
 use Rattle.machine.specs.declared.Mark.{Mark}
 use Rattle.machine.specs.declared.Mark.the-variants.{D}
 use Rattle.machine.specs.declared.Direction.{Direction}

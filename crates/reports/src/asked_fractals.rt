@@ -4,7 +4,7 @@ ghost use mathlib.Core.Path.{_≡_};
 ghost use mathlib.Core.List.{[]};
 ghost use Prim.Native.Nat.{_+_, _≤_, _<_};
 ghost use lib.ListN.{length, getD};
-ghost use Rattle.bars.specs.Stores.{rawStore, mergedStore};
+ghost use Rattle.stores.specs.Stores.{rawStore, mergedStore};
 ghost use Rattle.strokes.specs.Stored.{fractalStore, rowFractal};
 ghost use Rattle.sound.specs.SoundStand.{storesOf};
 ghost use Rattle.reports.specs.FractalAnswers.{answersOf};

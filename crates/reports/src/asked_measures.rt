@@ -5,7 +5,7 @@ ghost use Prim.Native.Nat.{_≤_};
 ghost use lib.ListN.{length, take};
 ghost use lib.Dec.{T};
 ghost use Rattle.bars.specs.declared.Bar.{Bar as BarOf};
-ghost use Rattle.bars.specs.Stores.{rawStore, mergedStore, rising};
+ghost use Rattle.stores.specs.Stores.{rawStore, mergedStore, rising};
 ghost use Rattle.strokes.specs.Stored.{fractalStore};
 ghost use Rattle.machine.specs.Strokes.{Stroke};
 ghost use Rattle.sound.specs.SoundStand.{namedRows, storesOf};

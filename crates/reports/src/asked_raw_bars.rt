@@ -6,7 +6,7 @@ ghost use lib.ListN.{length, take, getD};
 ghost use lib.IntN.{pos};
 ghost use lib.Dec.{T};
 ghost use Rattle.bars.specs.Lists.{every};
-ghost use Rattle.bars.specs.Stores.{rawStore, mergedStore, RoomRaw, setBar};
+ghost use Rattle.stores.specs.Stores.{rawStore, mergedStore, RoomRaw, setBar};
 ghost use Rattle.strokes.specs.Stored.{fractalStore};
 ghost use Rattle.sound.specs.SoundStand.{isTime, namedRows, storesOf};
 ghost use Rattle.reports.specs.ElementPrices.{elementsIn};
@@ -71,9 +71,9 @@ fn put_named(
     ensures { λ _. ⌜ rawStore (now (ot .exit)) (now (oi .exit)) (now (op .exit)) ≡ setBar (rawStore (now (ot .entry)) (now (oi .entry)) (now (op .entry))) at (namedBar (rawStore (now (rt .entry)) (now (ri .entry)) (now (rp .entry))) n (getD (now (row .entry)) j (pos 0))) ⌝ }
 {
     let t = row[j];
-    let i = bars::find_time(rt, n, t);
-    let b = bars::read_bar(rt, ri, rp, i);
-    bars::write_bar(ot, oi, op, at, b);
+    let i = stores::find_time(rt, n, t);
+    let b = stores::read_bar(rt, ri, rp, i);
+    stores::write_bar(ot, oi, op, at, b);
 }
 
 // Those that the first `count` elements of a row name, from place `at` on: the place behind them.

@@ -5,7 +5,7 @@ ghost use mathlib.Core.List.{map};
 ghost use Prim.Native.Nat.{_≤_};
 ghost use lib.ListN.{length, take, getD};
 ghost use lib.Ieee.{nan};
-ghost use Rattle.bars.specs.Stores.{rawStore, mergedStore};
+ghost use Rattle.stores.specs.Stores.{rawStore, mergedStore};
 ghost use Rattle.strokes.specs.Stored.{fractalStore, stateOf};
 ghost use Rattle.sound.specs.SoundStand.{storesOf};
 ghost use Rattle.sound.specs.Question4.{IsSound};

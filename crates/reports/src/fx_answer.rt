@@ -4,7 +4,7 @@
 ghost use mathlib.Core.Path.{_≡_};
 ghost use mathlib.Core.Bool.{true};
 ghost use mathlib.Core.Option.{none};
-ghost use Rattle.bars.specs.Stores.{rawStore, mergedStore};
+ghost use Rattle.stores.specs.Stores.{rawStore, mergedStore};
 ghost use Rattle.strokes.specs.Stored.{fractalStore, stateOf};
 ghost use Rattle.sound.specs.SoundStand.{storesOf};
 ghost use Rattle.sound.specs.Question4.{question4};

@@ -1,7 +1,7 @@
 // The fractals of the unfinished bars, window by window, as get_fx_list goes through them after those of the strokes.
 ghost use mathlib.Core.Path.{_≡_};
 ghost use Prim.Native.Nat.{_≤_};
-ghost use Rattle.bars.specs.Stores.{rawStore, RoomRaw};
+ghost use Rattle.stores.specs.Stores.{rawStore, RoomRaw};
 ghost use Rattle.machine.specs.Fractals.{taken};
 ghost use Rattle.check_bi.specs.Scan.{candleOf};
 ghost use Rattle.strokes.specs.StrokeStore.{plainBar, fractalsOf};
@@ -137,9 +137,9 @@ pub fn step_windows(
     let mut r = s;
     let mut i: usize = 0;
     while i + 2 < end {
-        let a = bars::read_bar(ut, ui, up, i);
-        let b = bars::read_bar(ut, ui, up, i + 1);
-        let c = bars::read_bar(ut, ui, up, i + 2);
+        let a = stores::read_bar(ut, ui, up, i);
+        let b = stores::read_bar(ut, ui, up, i + 1);
+        let c = stores::read_bar(ut, ui, up, i + 2);
         w = turn_of(w, a, b, c);
         r = step_window(os, op, write, r, w, a, b, c);
         i += 1;

@@ -9,7 +9,7 @@ ghost use lib.Ieee.{nan, fits, binary64};
 ghost use Rattle.arith.specs.Sums.{meanStart, meanMore, fitStart, fitMore, snrStart, snrMore};
 ghost use Rattle.bars.specs.Bars.{Merged};
 ghost use Rattle.bars.specs.Lists.{every};
-ghost use Rattle.bars.specs.Stores.{rising};
+ghost use Rattle.stores.specs.Stores.{rising};
 ghost use Rattle.sound.specs.SoundStand.{isTime, namedRows};
 ghost use Rattle.machine.specs.Fractals.{Fractal, fxOf};
 ghost use Rattle.machine.specs.Strokes.{Stroke};
@@ -128,7 +128,7 @@ fn named_prices(rt: &[i64], rp: &[[f64; 6]], row: &[i64], j: usize) -> [f64; 6]
 {
     let n = rt.len();
     let t = row[j];
-    let at = bars::find_time(rt, n, t);
+    let at = stores::find_time(rt, n, t);
     rp[at]
 }
 

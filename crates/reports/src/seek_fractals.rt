@@ -2,7 +2,7 @@
 ghost use mathlib.Core.Path.{_≡_};
 ghost use mathlib.Core.Bool.{false};
 ghost use mathlib.Core.Option.{Option·map};
-ghost use Rattle.bars.specs.Stores.{rawStore, RoomRaw};
+ghost use Rattle.stores.specs.Stores.{rawStore, RoomRaw};
 ghost use Rattle.machine.specs.Fractals.{taken};
 ghost use Rattle.check_bi.specs.Scan.{candleOf};
 ghost use Rattle.strokes.specs.StrokeStore.{plainBar, fractalsOf};
@@ -124,9 +124,9 @@ pub fn seek(ut: &[i64], ui: &[i32], up: &[[f64; 6]], n: usize, place: usize) -> 
     let mut k = begin(place);
     let mut i: usize = 0;
     while i + 2 < n {
-        let a = bars::read_bar(ut, ui, up, i);
-        let b = bars::read_bar(ut, ui, up, i + 1);
-        let c = bars::read_bar(ut, ui, up, i + 2);
+        let a = stores::read_bar(ut, ui, up, i);
+        let b = stores::read_bar(ut, ui, up, i + 1);
+        let c = stores::read_bar(ut, ui, up, i + 2);
         k = seek_window(k, a, b, c);
         i += 1;
     }

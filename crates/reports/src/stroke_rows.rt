@@ -4,7 +4,7 @@ ghost use Prim.Native.Nat.{_+_, _<_, _≤_};
 ghost use mathlib.Core.List.{[]};
 ghost use lib.IntN.{pos};
 ghost use lib.ListN.{length, take, drop, getD};
-ghost use Rattle.bars.specs.Stores.{barOf};
+ghost use Rattle.stores.specs.Stores.{barOf};
 ghost use Rattle.strokes.specs.Stored.{rowFractal, total};
 ghost use Rattle.strokes.specs.StrokeStore.{rowMark};
 ghost use Rattle.reports.specs.NamedStrokes.{rowsOf, endRow};

@@ -6,7 +6,7 @@ ghost use Prim.Native.Nat.{_+_, _≤_, min};
 ghost use lib.ListN.{length, take};
 ghost use lib.Ieee.{lt, le};
 ghost use Rattle.bars.specs.Lists.{join};
-ghost use Rattle.bars.specs.Stores.{rawStore, mergedStore, RoomRaw, barAt, rawBars, zipWith};
+ghost use Rattle.stores.specs.Stores.{rawStore, mergedStore, RoomRaw, barAt, rawBars, zipWith};
 ghost use Rattle.strokes.specs.Stored.{fractalStore, stateOf};
 ghost use Rattle.sound.specs.SoundStand.{storesOf};
 ghost use Rattle.sound.specs.Question4.{IsSound};
@@ -97,12 +97,12 @@ fn see_named(e: Extremes, rt: &[i64], ri: &[i32], rp: &[[f64; 6]], n: usize, t: 
     requires { ⌜ RisingFirst (rawStore (now rt) (now ri) (now rp)) n ⌝ }
     ensures { λ r. ⌜ r ≡ seeAt (take n (rawBars (rawStore (now (rt .entry)) (now (ri .entry)) (now (rp .entry))))) e t ⌝ }
 {
-    let p = bars::find_time(rt, n, t);
+    let p = stores::find_time(rt, n, t);
     if p < n {
         if t < rt[p] {
             return e;
         }
-        let b = bars::read_bar(rt, ri, rp, p);
+        let b = stores::read_bar(rt, ri, rp, p);
         return see(e, b);
     }
     e
@@ -224,9 +224,9 @@ fn fractal_at(ut: &[i64], ui: &[i32], up: &[[f64; 6]], at: usize, mark: Mark) ->
     requires { ⌜ RoomRaw (rawStore (now ut) (now ui) (now up)) (at + 3) ⌝ }
     ensures { λ r. ⌜ r ≡ threeBars mark (barAt (rawStore (now (ut .entry)) (now (ui .entry)) (now (up .entry))) at) (barAt (rawStore (now (ut .entry)) (now (ui .entry)) (now (up .entry))) (at + 1)) (barAt (rawStore (now (ut .entry)) (now (ui .entry)) (now (up .entry))) (at + 2)) ⌝ }
 {
-    let left = bars::read_bar(ut, ui, up, at);
-    let mid = bars::read_bar(ut, ui, up, at + 1);
-    let right = bars::read_bar(ut, ui, up, at + 2);
+    let left = stores::read_bar(ut, ui, up, at);
+    let mid = stores::read_bar(ut, ui, up, at + 1);
+    let right = stores::read_bar(ut, ui, up, at + 2);
     FractalBars {
         mark,
         left,

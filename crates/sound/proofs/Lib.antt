@@ -1,5 +1,6 @@
 pub mod FreshLaws
 pub mod SoundScans
+pub mod SoundRows
 pub mod SoundNames
 pub mod SoundStrokes
 pub mod SoundFits

@@ -9,13 +9,14 @@ use lib.Dec.{T, leb, leb→le}
 use lib.Ieee.Fits.{and-l, and-r}
 use Rattle.bars.specs.Bars.{Merged}
 use Rattle.bars.specs.Lists.{last}
-use Rattle.bars.specs.Stores.{SizedRaw, SizedMerged, rawBars, mergedBars, zipWith}
+use Rattle.stores.specs.Stores.{SizedRaw, SizedMerged, rawBars, mergedBars, zipWith}
 use Rattle.machine.specs.Soundness.{barTimes, newestLast}
 use Rattle.strokes.specs.declared.Stand.{Stand}
 use Rattle.strokes.specs.Stored.{Stores, stateOf, barCounts, total, rawSized, mergedSized, fractalSized, storesSized, countsSized, sized}
+use Rattle.strokes.proofs.StoredStrokes.{sized-merged}
 use Rattle.sound.specs.SoundStand.{endsIn, newestRow}
 use Rattle.sound.specs.NewestBar.{NewestRoom, NewestIs}
-use Rattle.sound.proofs.SoundFits.{raw-fit, merged-fit, fractal-fit}
+use Rattle.sound.proofs.SoundFits.{raw-fit, fractal-fit}
 use Rattle.sound.proofs.SoundStrokes.{cut-lengths}
 use Rattle.sound.proofs.SoundReads.{raw-rows, raw-times, raw-take, rows-of, merged-take, merged-elements, newest-elements}
 use Rattle.sound.proofs.SoundFacts.{Sizes, sizes}
@@ -45,8 +46,8 @@ lengths s m h =
     let xy = and-l (x && y) (leb (s .strokes) 64 && leb (total (barCounts s)) (r .strokes)) (z .counts) in
     record {
       raw = raw-fit (r .raw) (m .raw) (and-l a b ab);
-      unfinished = merged-fit (r .unfinished) (m .unfinished) (and-r a b ab);
-      strokes = merged-fit (r .strokes) (m .strokes) (and-l c d cd);
+      unfinished = sized-merged (r .unfinished) (m .unfinished) (and-r a b ab);
+      strokes = sized-merged (r .strokes) (m .strokes) (and-l c d cd);
       fractals = fractal-fit (r .strokes) (m .fractals) (and-r c d cd);
       few-raw = leb→le (s .raw) (r .raw) (and-l x y xy);
       few-unfinished = leb→le (s .unfinished) (r .unfinished) (and-r x y xy);

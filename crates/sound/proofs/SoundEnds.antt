@@ -11,10 +11,10 @@ use lib.Signed.{leZ}
 use lib.Dec.{T, leb}
 use lib.Ieee.{Float, nan, eq}
 use lib.Ieee.Fits.{and-l, and-r}
-use Rattle.arith.proofs.FloatOrder.{eq-left, eq-refl}
+use Rattle.arith.proofs.FloatOrder.{eq-left, eq-refl, or-r}
 use Rattle.bars.specs.Lists.{every, some-of}
-use Rattle.bars.specs.Stores.{zipWith, barOf}
-use Rattle.bars.proofs.Columns.{zip-at, zip-length, zip-none}
+use Rattle.stores.specs.Stores.{zipWith, barOf}
+use Rattle.stores.proofs.Columns.{zip-at, zip-length, zip-none}
 use borrow.Author.Tests.{le-leb}
 use Rattle.machine.specs.declared.Mark.{Mark}
 use Rattle.machine.specs.declared.Mark.the-variants.{D, G}
@@ -113,15 +113,11 @@ unfolding some-of
 some-real f [] h = absurd h
 some-real f (g ∷ l) h = either-of (sameFractal f g) (some-of (sameFractal f) l) (real f) (same-real f g) (some-real f l) h
 
-or-right : (a b : Bool) → T b → T (a || b)
-or-right true b h = tt
-or-right false b h = h
-
 some-at : {A : Type 0} (p : A → Bool) (l : List A) (i : ℕ) (z : A) → i < length l → T (p (getD l i z)) → T (some-of p l)
 unfolding some-of
 some-at p [] i z h k = absurd (omega arith)
 some-at p (a ∷ l) zero z h k = rw (yes (p a) k) tt
-some-at p (a ∷ l) (suc i) z h k = or-right (p a) (some-of p l) (some-at p l i z (omega arith) k)
+some-at p (a ∷ l) (suc i) z h k = or-r (p a) (some-of p l) (some-at p l i z (omega arith) k)
 
 held-at : (l : List Fractal) (i : ℕ) (z : Fractal) → i < length l → some-of (sameFractal (getD l i z)) l ≡ real (getD l i z)
 held-at l i z h =

@@ -14,8 +14,8 @@ use lib.Ieee.Fits.{and-l, and-r}
 use Rattle.bars.specs.declared.Bar.{Bar}
 use Rattle.bars.specs.Bars.{Merged}
 use Rattle.bars.specs.Lists.{every, last}
-use Rattle.bars.specs.Stores.{SizedRaw, SizedMerged, rawBars, mergedBars, rising}
-use Rattle.bars.proofs.Columns.{raw-length, merged-length}
+use Rattle.stores.specs.Stores.{SizedRaw, SizedMerged, rawBars, mergedBars, rising}
+use Rattle.stores.proofs.Columns.{raw-length, merged-length}
 use Rattle.strokes.specs.declared.Stand.{Stand}
 use Rattle.machine.specs.Fractals.{Fractal}
 use Rattle.machine.specs.Strokes.{Stroke}

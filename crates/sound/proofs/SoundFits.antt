@@ -5,10 +5,11 @@ use mathlib.Core.Bool.{Bool, true, false, _&&_}
 use lib.ListN.{length, take}
 use lib.Dec.{T, leb, eqb, leb→le, eqb→eq}
 use lib.Ieee.Fits.{and-l, and-r}
-use Rattle.bars.specs.Stores.{RawStore, MergedStore, SizedRaw, SizedMerged, rising}
+use Rattle.stores.specs.Stores.{RawStore, MergedStore, SizedRaw, SizedMerged, rising}
 use Rattle.strokes.specs.declared.Stand.{Stand}
 use Rattle.machine.specs.Soundness.{isRoom, roomsPass, settingsPass, settingsSound}
 use Rattle.strokes.specs.Stored.{Stores, FractalStore, settingsOf, barCounts, total, rawSized, mergedSized, fractalSized, storesSized, countsSized}
+use Rattle.strokes.proofs.StoredStrokes.{sized-merged}
 use Rattle.sound.specs.SoundStand.{numbersPass, rawColumns, unfinishedColumns, frontColumns}
 use Rattle.sound.proofs.SoundScans.{yes, holds}
 use Rattle.sound.proofs.SoundStrokes.{raw-rising}
@@ -26,15 +27,6 @@ unfolding rawSized
 raw-fit n r h =
     let k = eq-three n (length (r .times)) (length (r .ids)) (length (r .prices)) h in
     record { times = k .0; ids = k .1; prices = k .2 }
-
-pub merged-fit : (n : ℕ) (u : MergedStore) → T (mergedSized n u) → SizedMerged u n
-unfolding mergedSized
-merged-fit n u h =
-    let a = eqb (length (u .times)) n && (eqb (length (u .ids)) n && eqb (length (u .prices)) n) in
-    let b = eqb (length (u .counts)) n && eqb (length (u .elements)) n in
-    let k = eq-three n (length (u .times)) (length (u .ids)) (length (u .prices)) (and-l a b h) in
-    let l = eq-two n (length (u .counts)) (length (u .elements)) (and-r a b h) in
-    record { raw = record { times = k .0; ids = k .1; prices = k .2 }; counts = l .0; elements = l .1 }
 
 pub fractal-fit : (n : ℕ) (f : FractalStore) → T (fractalSized n f) → (length (f .stamps) ≡ n) × (length (f .prices) ≡ n)
 unfolding fractalSized
@@ -79,8 +71,8 @@ fit s m e f =
     let hp = and-l p q (and-r (x && y) (p && q) g) in
     record {
       raw = raw-fit (r .raw) (m .raw) (and-l a b ab);
-      unfinished = merged-fit (r .unfinished) (m .unfinished) (and-r a b ab);
-      strokes = merged-fit (r .strokes) (m .strokes) (and-l c d cd);
+      unfinished = sized-merged (r .unfinished) (m .unfinished) (and-r a b ab);
+      strokes = sized-merged (r .strokes) (m .strokes) (and-l c d cd);
       fractals = fractal-fit (r .strokes) (m .fractals) (and-r c d cd);
       few-raw = leb→le (s .raw) (r .raw) (and-l (leb (s .raw) (r .raw)) (leb (s .unfinished) (r .unfinished)) hx);
       few-unfinished = leb→le (s .unfinished) (r .unfinished) (and-r (leb (s .raw) (r .raw)) (leb (s .unfinished) (r .unfinished)) hx);

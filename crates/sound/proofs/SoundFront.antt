@@ -1,9 +1,9 @@
 -- The raw and the unfinished bars pass the clauses of soundness where their columns do. Assumes nothing.
-use Prim.Native.Nat.{ℕ, zero, suc, _≤_}
+use Prim.Native.Nat.{ℕ, _≤_}
 use native.Mathlib.Omega.{arith}
 use mathlib.Core.Path.{_≡_, refl, ap, sym, _∙_}
 use mathlib.Core.Bool.{Bool, true, false, _&&_}
-use mathlib.Core.List.{List, [], _∷_, map}
+use mathlib.Core.List.{List}
 use lib.ListN.{length, take, drop}
 use lib.IntN.{ℤ}
 use lib.Ieee.{Float}
@@ -11,13 +11,14 @@ use Rattle.bars.specs.declared.Bar.{Bar}
 use Rattle.bars.specs.Bars.{Merged}
 use Rattle.bars.specs.Lists.{every, last}
 use Rattle.bars.specs.Questions.{isBar}
-use Rattle.bars.specs.Stores.{RawStore, SizedRaw, rawStore, mergedStore, rawBars, mergedBars, zipWith}
-use Rattle.bars.proofs.Columns.{zip-drop}
+use Rattle.stores.specs.Stores.{RawStore, SizedRaw, rawStore, mergedStore, rawBars, mergedBars, zipWith}
+use Rattle.stores.proofs.Columns.{zip-drop}
 use Rattle.machine.specs.Soundness.{rises, barTimes, mergedTimes, isMerged, isNamed, asked, newestIn}
 use Rattle.sound.specs.SoundStand.{inTime, timesPass, rawRow, mergedRow, smallCount, isTime, namedRows, newestRow, endsIn, skipped, rawColumns, unfinishedColumns}
 use Rattle.sound.proofs.SoundScans.{and-assoc}
 use Rattle.sound.proofs.SoundStrokes.{cut-lengths}
 use Rattle.sound.proofs.SoundReads.{Rows, raw-rows, raw-times, raw-every, raw-take, merged-times, merged-every, merged-elements, merged-length, named-elements, asked-drop, newest-elements}
+use Rattle.strokes.proofs.BareStates.{map-drop}
 
 pub raw-are : (n room : ℕ) (r : RawStore) → SizedRaw r room → n ≤ room
     → (rises (barTimes (take n (rawBars r))) && every isBar (take n (rawBars r))) ≡ rawColumns (take n (r .times)) (take n (r .prices))
@@ -35,11 +36,6 @@ regroup : (a b c x : Bool) → (a && ((b && c) && x)) ≡ ((a && b) && (c && x))
 regroup true true c x = refl
 regroup true false c x = refl
 regroup false b c x = refl
-
-pub map-drop : {A B : Type 0} (f : A → B) (n : ℕ) (l : List A) → map f (drop n l) ≡ drop n (map f l)
-map-drop f zero l = refl
-map-drop f (suc n) [] = refl
-map-drop f (suc n) (a ∷ l) = map-drop f n l
 
 pub unfinished-are : {ts is : List ℤ} {ps : List (List Float)} {cs : List ℕ} {es : List (List ℤ)} (raw : List Bar) → Rows ts is ps cs es → length cs ≡ length ts
     → (rises (mergedTimes (mergedBars (mergedStore ts is ps cs es)))

@@ -16,16 +16,17 @@ use borrow.Author.Tests.{le-ltb, lt-ltb, ltb-true, ltb-false}
 use Rattle.bars.specs.declared.Bar.{Bar}
 use Rattle.bars.specs.Bars.{Merged}
 use Rattle.bars.specs.Lists.{every, some-of, init}
-use Rattle.bars.specs.Stores.{MergedStore, mergedStore, mergedBars, zipWith}
-use Rattle.bars.proofs.Columns.{zip-take, zip-drop, zip-length}
+use Rattle.stores.specs.Stores.{MergedStore, mergedStore, mergedBars, zipWith}
+use Rattle.stores.proofs.Columns.{zip-take, zip-drop, zip-length}
+use Rattle.stores.proofs.KeptBars.{map-take}
 use Rattle.machine.specs.Fractals.{Fractal}
 use Rattle.machine.specs.Strokes.{Stroke}
 use Rattle.machine.specs.Soundness.{fewerFractals, barTimes, isMerged, rises, mergedTimes, fractalTimes, strokeRises, alternates, sameFractal, isStroke, isNamed, inner}
 use Rattle.strokes.specs.Stored.{FractalStore, fractalStore, rowFractal, storedFractals, noFractal, strokeWith, strokesWith, total}
+use Rattle.strokes.proofs.BareStates.{map-drop}
 use Rattle.sound.specs.SoundStand.{inTime, timesPass, mergedRow, smallCount, isTime, namedRows, topRow, alternating, endsHeld, middleTimes, fractalColumns, strokeColumns, strokesColumns}
 use Rattle.sound.proofs.SoundScans.{and-assoc, same}
 use Rattle.sound.proofs.SoundReads.{and-swap, Rows, rows-of, merged-times, merged-every, merged-elements, merged-length, named-elements, merged-take, merged-drop, init-take, fractal-middles}
-use Rattle.sound.proofs.SoundFront.{map-drop}
 use Rattle.sound.proofs.SoundEnds.{marks-are, ends-are, ends-none}
 
 -- ---- flags in another order
@@ -71,11 +72,6 @@ module _ (i p r m f a e n c : Bool) where
   clauses-columns = same clausesOf columnsOf (λ h. to-columns (of-clauses h)) (λ h. to-clauses (of-columns h))
 
 -- ---- one stroke
-
-map-take : {A B : Type 0} (f : A → B) (n : ℕ) (l : List A) → map f (take n l) ≡ take n (map f l)
-map-take f zero l = refl
-map-take f (suc n) [] = refl
-map-take {A} {B} f (suc n) (a ∷ l) = ap (λ (r : List B). f a ∷ r) (map-take f n l)
 
 -- what soundness asks of a stroke whose bars have these numbers of elements, but that it has fewer fractals than bars
 unfoldable pub strokeAsked : List Bar → List ℕ → Stroke → Bool
@@ -182,7 +178,7 @@ pub record Sized (room : ℕ) (ts is : List ℤ) (ps : List (List Float)) (cs : 
 length-at : {A : Type 0} (n room : ℕ) (l : List A) → length l ≡ room → length (drop n l) ≡ room - n
 length-at n room l e = length-drop n l ∙ ap (λ (k : ℕ). k - n) e
 
-length-to : {A B : Type 0} (n room : ℕ) (l : List A) (r : List B) → length l ≡ room → length r ≡ room → length (take n l) ≡ length (take n r)
+pub length-to : {A B : Type 0} (n room : ℕ) (l : List A) (r : List B) → length l ≡ room → length r ≡ room → length (take n l) ≡ length (take n r)
 length-to n room l r e f = length-take n l ∙ ap (λ (k : ℕ). min n k) (e ∙ sym f) ∙ sym (length-take n r)
 
 module _ {room : ℕ} {ts is : List ℤ} {ps : List (List Float)} {cs : List ℕ} {es fs : List (List ℤ)} {fp : List (List Float)} (n : ℕ) (z : Sized room ts is ps cs es fs fp) where

@@ -5,22 +5,24 @@ use mathlib.Core.Path.{_≡_, refl, ap, sym, _∙_, subst}
 use mathlib.Core.Bool.{Bool, true, false, not, _&&_, _||_}
 use mathlib.Core.List.{List, [], _∷_}
 use mathlib.Core.Option.{Option, none, some}
+use mathlib.Core.Logic.{_⊎_, inl, inr}
 use lib.ListN.{length, take, drop, getD, length-drop, length-take, drop-of-length-le}
-use lib.Seq.{drop-cons, getD-take, length-take-le}
+use lib.Seq.{drop-cons, getD-take, length-take-le, take-all}
 use lib.IntN.{ℤ, pos}
 use lib.Signed.{ltZ, leZ}
-use lib.Dec.{T, leb, ltb, leb→le, le→leb, leb·suc-suc, T-not}
+use lib.Dec.{T, leb, ltb, leb→le, le→leb, leb·suc-suc, T-not, ltb→lt}
 use lib.Ieee.Fits.{and-l, and-r}
 use borrow.Author.Tests.{lt-ltb, le-leb, lt-leb}
+use Rattle.arith.proofs.FloatOrder.{lt-or-ge, or-l, or-r}
 use Rattle.bars.specs.Lists.{every, some-of, last}
-use Rattle.bars.specs.Stores.{zipWith, rising, placeOf, nextIf}
-use Rattle.bars.proofs.Searching.{place-at, rising-tail, rising-head}
-use Rattle.bars.proofs.Columns.{zip-at, zip-length}
+use Rattle.stores.specs.Stores.{zipWith, rising, placeOf, nextIf}
+use Rattle.stores.proofs.Searching.{place-at, rising-tail, rising-head}
+use Rattle.stores.proofs.Columns.{zip-at, zip-length}
 use Rattle.machine.proofs.Times.{lt-trans, lt-not-le, le-antisym, not-lt-le, le-not-lt}
-use Rattle.sound.proofs.SoundScans.{and-assoc, and-true, and-false, yes, no, holds, fails, same, every-turn, every-end}
+use Rattle.sound.proofs.SoundScans.{and-assoc, and-true, and-false, yes, no, holds, fails, pair, same, every-turn, every-end}
 use Rattle.machine.specs.Soundness.{sameTime, endsOn}
 use Rattle.strokes.specs.Stored.{total}
-use Rattle.sound.specs.SoundStand.{atPlace, isTime, placeAfter, namedRows, endsIn, newestRow}
+use Rattle.sound.specs.SoundStand.{atPlace, isTime, namedRows, endsIn, newestRow}
 
 -- ---- a time at its place
 
@@ -43,10 +45,7 @@ at-place ts p t r e =
     let h = subst T (sym e) tt in
     let k = and-l (ltb p (length ts)) (sameTime (getD ts p (pos 0)) t) h in
     let q = same-time (getD ts p (pos 0)) t (and-r (ltb p (length ts)) (sameTime (getD ts p (pos 0)) t) h) in
-    sym (place-at ts p r (below p (length ts) k)) ∙ ap (λ (u : ℤ). placeOf u ts) q
-  where
-    below : (a b : ℕ) → T (ltb a b) → a < b
-    below a b k = omega (arith, leb→le (suc a) b k)
+    sym (place-at ts p r (ltb→lt p (length ts) k)) ∙ ap (λ (u : ℤ). placeOf u ts) q
 
 -- no later time is t
 none-later : (t a : ℤ) (l : List ℤ) → T (rising (a ∷ l)) → ltZ t a ≡ true → isTime l t ≡ false
@@ -114,14 +113,6 @@ module _ (ts row : List ℤ) (count j : ℕ) (r : T (rising ts)) (h : j < min co
       every-turn (isTime ts) (take count row) j (pos 0) ok ok' x v inside
       (f ∙ ap (λ (q : ℕ). atPlace ts q (getD row j (pos 0))) e ∙ place-named ts (getD row j (pos 0)) r ∙ ap (isTime ts) (sym read)) g k
 
-  pub after-turn : (p q v : ℕ) → p ≡ placeOf (getD row j (pos 0)) ts → placeAfter ts q (drop j (take count row)) ≡ v → placeAfter ts (p + 1) (drop (j + 1) (take count row)) ≡ v
-  unfolding placeAfter
-  after-turn p q v e k =
-      let c : j + 1 ≡ suc j = omega arith in
-      let d : placeAfter ts q (drop j (take count row)) ≡ placeAfter ts (placeOf (getD row j (pos 0)) ts + 1) (drop (suc j) (take count row)) =
-      rw (drop-cons (take count row) j (pos 0) inside, read) in
-      rw (c, e) (sym d ∙ k)
-
 row-short : {A : Type 0} (row : List A) (count j : ℕ) → min count (length row) ≤ j → length (take count row) ≤ j
 row-short row count j h = omega (arith, length-take count row)
 
@@ -131,9 +122,53 @@ row-end ts row count j ok v h k = every-end (isTime ts) (take count row) j ok v 
 drop-all : {A : Type 0} (l : List A) (j : ℕ) → length l ≤ j → drop j l ≡ []
 drop-all l j h = drop-of-length-le l h
 
-pub after-end : (ts row : List ℤ) (count j q v : ℕ) → min count (length row) ≤ j → placeAfter ts q (drop j (take count row)) ≡ v → q ≡ v
-unfolding placeAfter
-after-end ts row count j q v h k = sym (ap (placeAfter ts q) (drop-all (take count row) j (row-short row count j h))) ∙ k
+-- no more than all elements are read
+take-least : {A : Type 0} (l : List A) (count n : ℕ) → n ≡ min count (length l) → take n l ≡ take count l
+take-least {A} l count n e = by (lt-or-ge count (length l))
+  where
+    by : (count < length l) ⊎ (length l ≤ count) → take n l ≡ take count l
+    by (inl h) = let k : n ≡ count = omega arith in ap (λ (m : ℕ). take m l) k
+    by (inr h) = let k : length l ≤ n = omega arith in take-all n l k ∙ sym (take-all count l h)
+
+pub row-each : (ts row : List ℤ) (count n : ℕ) (x : Bool) → n ≡ min count (length row) → x ≡ every (isTime ts) (take n row) → x ≡ every (isTime ts) (take count row)
+row-each ts row count n x e f = f ∙ ap (every (isTime ts)) (take-least row count n e)
+
+-- ---- elements that follow one another
+
+-- what stands among the times is one of them
+time-at : (ts : List ℤ) (p : ℕ) (t : ℤ) → p < length ts → T (sameTime (getD ts p (pos 0)) t) → T (isTime ts t)
+unfolding isTime some-of
+time-at [] p t h k = absurd (omega arith)
+time-at (a ∷ ts) zero t h k = or-l (sameTime a t) (some-of (λ u. sameTime u t) ts) k
+time-at (a ∷ ts) (suc p) t h k = or-r (sameTime a t) (some-of (λ u. sameTime u t) ts) (time-at ts p t (omega arith) k)
+
+one-more : {A : Type 0} (p : A → Bool) (v : List A) (j : ℕ) (z : A) → j < length v → T (every p (take j v)) → T (p (getD v j z)) → T (every p (take (suc j) v))
+unfolding every
+one-more p [] j z h k m = absurd (omega arith)
+one-more p (a ∷ v) zero z h k m = pair (p a) true m tt
+one-more p (a ∷ v) (suc j) z h k m =
+    pair (p a) (every p (take (suc j) v)) (and-l (p a) (every p (take j v)) k) (one-more p v j z (omega arith) (and-r (p a) (every p (take j v)) k) m)
+
+pub follow-start : (ts row : List ℤ) (ok : Bool) → T ok → T (every (isTime ts) (take 0 row))
+unfolding every
+follow-start ts row ok h = tt
+
+pub follow-turn : (ts row : List ℤ) (j p : ℕ) (ok ok' x : Bool) → j < length row → p < length ts → x ≡ sameTime (getD ts p (pos 0)) (getD row j (pos 0)) → ok' ≡ (ok && x)
+    → (T ok → T (every (isTime ts) (take j row))) → T ok' → T (every (isTime ts) (take (j + 1) row))
+follow-turn ts row j p ok ok' x h k e f g t =
+    let c : suc j ≡ j + 1 = omega arith in
+    let b = subst T f t in
+    let m = time-at ts p (getD row j (pos 0)) k (subst T e (and-r ok x b)) in
+    subst (λ (n : ℕ). T (every (isTime ts) (take n row))) c (one-more (isTime ts) row j (pos 0) h (g (and-l ok x b)) m)
+
+pub follow-end : (ts row : List ℤ) (n j : ℕ) (ok : Bool) → j ≤ n → n ≤ j → (T ok → T (every (isTime ts) (take j row))) → T ok → T (every (isTime ts) (take n row))
+follow-end ts row n j ok h k f t =
+    let e : j ≡ n = omega arith in
+    subst (λ (m : ℕ). T (every (isTime ts) (take m row))) e (f t)
+
+pub row-follows : (ts row : List ℤ) (count n : ℕ) (x : Bool) → n ≡ min count (length row) → (T x → T (every (isTime ts) (take n row))) → x ≡ true
+    → true ≡ every (isTime ts) (take count row)
+row-follows ts row count n x e f g = row-each ts row count n true e (sym (yes (every (isTime ts) (take n row)) (f (holds g))))
 
 -- ---- the elements of all rows
 

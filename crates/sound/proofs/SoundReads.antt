@@ -14,8 +14,8 @@ use Rattle.bars.specs.declared.Bar.{Bar}
 use Rattle.bars.specs.Bars.{Merged}
 use Rattle.bars.specs.Lists.{every, some-of, last, init}
 use Rattle.bars.specs.Questions.{question5, question6, question7, question8, fromZero, isBar}
-use Rattle.bars.specs.Stores.{RawStore, MergedStore, rawStore, mergedStore, zipWith, barOf, mergedWith, rawBars, mergedBars}
-use Rattle.bars.proofs.Columns.{zip-take, zip-drop}
+use Rattle.stores.specs.Stores.{RawStore, MergedStore, rawStore, mergedStore, zipWith, barOf, mergedWith, rawBars, mergedBars}
+use Rattle.stores.proofs.Columns.{zip-take, zip-drop}
 use Rattle.machine.specs.Fractals.{Fractal, isTop, timeOf}
 use Rattle.strokes.specs.Stored.{fractalStore, storedFractals, rowBar, rowFractal, fractalOf}
 use Rattle.machine.specs.Soundness.{isMerged, barTimes, mergedTimes, fractalTimes, sameTime, names, isNamed, asked, endsOn, closes, newestIn}

@@ -3,22 +3,22 @@ use Prim.Native.Nat.{ℕ, zero, suc, _+_, _-_, _*_, _/_, _≤_, _<_}
 use borrow.Author.Tests.{le-leb}
 use native.Mathlib.Omega.{arith}
 use mathlib.Core.Path.{_≡_, refl, ap, sym, _∙_, subst}
-use mathlib.Core.Bool.{Bool, true, false, not, _&&_, _||_}
+use mathlib.Core.Bool.{Bool, true, false, not, _&&_}
 use mathlib.Core.List.{List, [], _∷_, map}
 use lib.ListN.{length, take, drop, getD, length-drop, length-map, List·getD-map}
 use lib.Seq.{drop-cons, take-length}
 use lib.IntN.{ℤ, pos}
 use lib.Signed.{ltZ, leZ}
 use lib.Dec.{T, not-T, T-not}
-use lib.Ieee.{Float, fin, binary64, lt, eq, div}
+use lib.Ieee.{Float}
 use lib.Ieee.Fits.{and-l, and-r}
 use Rattle.bars.specs.Lists.{every}
-use Rattle.bars.specs.Stores.{rising}
-use Rattle.bars.specs.Questions.{zeroFloat, fromZero, firstTime, lastTime}
-use Rattle.bars.proofs.Asked as questions
+use Rattle.stores.specs.Stores.{rising}
+use Rattle.bars.specs.Questions.{firstTime, lastTime}
 use Rattle.machine.proofs.Times.{lt-trans, lt-le, le-trans, not-lt-le, le-not-lt, lt-not-le, le-lt-trans, lt-le-trans}
 use Rattle.machine.specs.Soundness.{rises}
 use Rattle.sound.specs.SoundStand.{inTime, timesPass, topRow, differ, alternating, middleTimes, isReal, endsHeld}
+use Rattle.strokes.proofs.StoredStates.{rises-rising}
 
 -- ---- flags
 
@@ -129,14 +129,6 @@ rising-rises (a ∷ b ∷ l) h =
     let x = and-l (ltZ a b) (rising (b ∷ l)) h in
     let k = rising-rises (b ∷ l) (and-r (ltZ a b) (rising (b ∷ l)) h) in
     pair (every (λ u. ltZ a u) (b ∷ l)) (rises (b ∷ l)) (pair (ltZ a b) (every (λ u. ltZ a u) l) x (every-later a b l x (and-l (every (λ u. ltZ b u) l) (rises l) k))) k
-
-pub rises-rising : (l : List ℤ) → T (rises l) → T (rising l)
-unfolding rising rises every
-rises-rising [] h = tt
-rises-rising (a ∷ []) h = tt
-rises-rising (a ∷ b ∷ l) h =
-    let f = every (λ u. ltZ a u) (b ∷ l) in
-    pair (ltZ a b) (rising (b ∷ l)) (and-l (ltZ a b) (every (λ u. ltZ a u) l) (and-l f (rises (b ∷ l)) h)) (rises-rising (b ∷ l) (and-r f (rises (b ∷ l)) h))
 
 pub rises-is : (l : List ℤ) → rising l ≡ rises l
 rises-is l = same (rising l) (rises l) (rising-rises l) (rises-rising l)
@@ -262,13 +254,3 @@ times-inside (a ∷ l) h e f =
     (up-to a l (not-early a (holds e)) (and-l (every (λ u. ltZ a u) l) (rises l) r) (and-r (every (λ u. ltZ a u) l) (rises l) r)
     (not-late (getD (a ∷ l) (length l) (pos 0)) (holds g))))
     (λ r. and-l (rises (a ∷ l)) (every inTime (a ∷ l)) r)
-
--- ---- vol and amount
-
-pub from-zero-flags : (x : Float) → (lt zeroFloat x || (eq zeroFloat x && lt zeroFloat (div binary64 (fin false 1 (pos 0)) x))) ≡ fromZero x
-from-zero-flags x = by (lt zeroFloat x) (eq zeroFloat x) refl refl
-  where
-    by : (a b : Bool) → lt zeroFloat x ≡ a → eq zeroFloat x ≡ b → (lt zeroFloat x || (eq zeroFloat x && lt zeroFloat (div binary64 (fin false 1 (pos 0)) x))) ≡ fromZero x
-    by true b e f = rw e (questions.above-zero x e)
-    by false true e f = rw (e, f) (questions.at-zero x e f)
-    by false false e f = rw (e, f) (questions.not-from-zero x e f)

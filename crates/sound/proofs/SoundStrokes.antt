@@ -10,14 +10,14 @@ use lib.IntN.{ℤ}
 use lib.Dec.{T, ltb}
 use lib.Ieee.Fits.{and-l, and-r}
 use Rattle.bars.specs.Lists.{every}
-use Rattle.bars.specs.Stores.{rising}
+use Rattle.stores.specs.Stores.{rising}
 use Rattle.machine.specs.Soundness.{rises}
 use lib.Ieee.{Float}
 use borrow.Author.Tests.{lt-ltb, le-ltb}
 use Rattle.strokes.specs.Stored.{total}
+use Rattle.strokes.proofs.StoredStates.{rises-rising}
 use Rattle.sound.specs.SoundStand.{inTime, timesPass, rawRow, rawColumns, strokeColumns, strokesColumns}
 use Rattle.sound.proofs.SoundNames.{next-total}
-use Rattle.sound.proofs.SoundScans.{rises-rising}
 
 -- equal parts of two columns of one length
 pub part-lengths : {A B : Type 0} (l : List A) (m : List B) (k j n : ℕ) → length l ≡ n → length m ≡ n → length (take k (drop j l)) ≡ length (take k (drop j m))

@@ -13,12 +13,12 @@ use borrow.Author.Tests.{le-leb}
 use Rattle.bars.specs.declared.Bar.{Bar}
 use Rattle.bars.specs.Lists.{every, last}
 use Rattle.bars.specs.Questions.{isBar}
-use Rattle.bars.specs.Stores.{rawBars, mergedBars, mergedStore}
-use Rattle.bars.proofs.Columns.{raw-times, merged-length}
+use Rattle.stores.specs.Stores.{rawBars, mergedBars, mergedStore}
+use Rattle.stores.proofs.Columns.{raw-times, merged-length}
+use Rattle.stores.proofs.KeptBars.{map-take}
 use Rattle.strokes.specs.declared.Stand.{Stand}
 use Rattle.machine.specs.Soundness.{isMerged, rises, barTimes, mergedTimes, strokeRises, isStroke, isNamed, asked, inner, newestIn, fewerFractals, barsOf, countsFit, settingsSound, fewStrokes, rawPass, mergedPass, timesRise, strokesPass, elementsKept, newestLast, listsSound, soundBut, sound}
 use Rattle.strokes.specs.Stored.{Stores, strokesWith, storedFractals, settingsOf, stateOf, barCounts, fractalCounts, total, storesSized, countsSized, elementsSized, sized}
-use Rattle.strokes.proofs.StoredRaw.{map-take}
 use Rattle.strokes.proofs.StoredStates.{kept-raw, kept-unfinished}
 use Rattle.strokes.proofs.StoredStrokes.{strokes-length}
 use Rattle.sound.specs.SoundStand.{smallCount, rawColumns, unfinishedColumns, frontColumns, strokesColumns, numbersPass, columnsSound}

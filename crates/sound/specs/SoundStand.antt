@@ -12,7 +12,7 @@ use lib.Ieee.{Float, nan, lt, eq}
 use Rattle.bars.specs.declared.Bar.{Bar}
 use Rattle.bars.specs.Lists.{last, every, some-of}
 use Rattle.bars.specs.Questions.{firstTime, lastTime, question6, question7, question8, fromZero}
-use Rattle.bars.specs.Stores.{RawStore, MergedStore, rawStore, mergedStore, zipWith, barOf, placeOf}
+use Rattle.stores.specs.Stores.{RawStore, MergedStore, rawStore, mergedStore, zipWith, barOf}
 use Rattle.strokes.specs.declared.Stand.{Stand}
 use Rattle.machine.specs.Soundness.{settingsSound, rises, sameTime, endsOn}
 use Rattle.strokes.specs.Stored.{Stores, FractalStore, fractalStore, settingsOf, countsSized, storesSized, barCounts, fractalCounts}
@@ -72,12 +72,6 @@ namedRows ts cs es = every (every (isTime ts)) (zipWith take cs es)
 unfoldable pub atPlace : List ℤ → ℕ → ℤ → Bool
 unfolding sameTime
 atPlace ts p t = ltb p (length ts) && sameTime (getD ts p (pos 0)) t
-
--- the place after that of the last of these elements, p where there is none
-unfoldable pub placeAfter : List ℤ → ℕ → List ℤ → ℕ
-unfolding placeOf
-placeAfter ts p [] = p
-placeAfter ts p (t ∷ l) = placeAfter ts (placeOf t ts + 1) l
 
 -- the newest raw time, if any, is the last of the last elements
 unfoldable pub endsIn : Option ℤ → Option (List ℤ) → Bool

@@ -1,20 +1,20 @@
 // Question 4 of document 01: is the stand sound? A scan puts its tests together as flags, without a
 // branch, and looks only at the columns that its clause speaks of.
 ghost use mathlib.Core.Path.{_≡_};
-ghost use mathlib.Core.Bool.{_&&_, _||_};
+ghost use mathlib.Core.Bool.{false, _&&_};
 ghost use mathlib.Core.List.{[], map};
 ghost use Prim.Native.Nat.{_+_, _-_, _≤_, _<_, min};
 ghost use lib.IntN.{pos};
 ghost use lib.ListN.{length, take, drop, getD};
 ghost use lib.Signed.{ltZ};
 ghost use lib.Dec.{T, leb};
-ghost use lib.Ieee.{nan};
+ghost use lib.Ieee.{nan, le};
 ghost use Rattle.bars.specs.Lists.{every, last};
 ghost use Rattle.bars.specs.Questions.{isPrice, fromZero, isVolume};
-ghost use Rattle.bars.specs.Stores.{rawStore, mergedStore, rising, placeOf};
-ghost use Rattle.machine.specs.Soundness.{rises, isSetting, endsOn};
+ghost use Rattle.stores.specs.Stores.{rawStore, mergedStore, rising, placeOf};
+ghost use Rattle.machine.specs.Soundness.{rises, sameTime, isSetting, endsOn};
 ghost use Rattle.strokes.specs.Stored.{storesSized, fractalStore, rawSized, mergedSized, fractalSized, total};
-ghost use Rattle.sound.specs.SoundStand.{inTime, timesPass, rawRow, mergedRow, smallCount, differ, topRow, alternating, isReal, endsHeld, middleTimes, fractalColumns, atPlace, placeAfter, isTime, namedRows, newestRow, numbersPass, rawColumns, unfinishedColumns, strokeColumns, strokesColumns, frontColumns, storesOf};
+ghost use Rattle.sound.specs.SoundStand.{inTime, timesPass, rawRow, mergedRow, smallCount, differ, topRow, alternating, isReal, endsHeld, middleTimes, fractalColumns, atPlace, isTime, namedRows, newestRow, numbersPass, rawColumns, unfinishedColumns, strokeColumns, strokesColumns, frontColumns, storesOf};
 ghost use Rattle.sound.specs.Question4.{question4};
 use super::fresh_stand::rooms_fit;
 use strokes::Stand;
@@ -80,23 +80,17 @@ pub fn times_pass(ts: &[i64]) -> bool
 
 // ---- rows of prices
 
-fn either(a: bool, b: bool) -> bool
-    ensures { λ r. ⌜ r ≡ (a || b) ⌝ }
-{
-    a | b
-}
-
 fn is_price(x: f64) -> bool
     ensures { λ r. ⌜ r ≡ isPrice x ⌝ }
 {
     both(0.00000095367431640625 <= x, x <= 1073741824.0)
 }
 
-// Zero or more, and no minus zero, whose reciprocal is the negative infinity.
+// Zero or more, and no minus zero, whose reciprocal is below zero.
 fn from_zero(x: f64) -> bool
     ensures { λ r. ⌜ r ≡ fromZero x ⌝ }
 {
-    either(0.0 < x, both(0.0 == x, 0.0 < 1.0 / x))
+    both(0.0 <= x, 0.0 <= 1.0 / x)
 }
 
 fn is_volume(x: f64) -> bool
@@ -105,31 +99,34 @@ fn is_volume(x: f64) -> bool
     both(from_zero(x), x <= 1125899906842624.0)
 }
 
-fn prices_pass(p: [f64; 6]) -> bool
-    ensures { λ r. ⌜ r ≡ ((isPrice (getD p 0 nan) && isPrice (getD p 1 nan)) && (isPrice (getD p 2 nan) && isPrice (getD p 3 nan))) ⌝ }
+// Two prices, low at most high: high is not too small where low is not, and low not too large where
+// high is not.
+fn is_range(low: f64, high: f64) -> bool
+    ensures { λ r. ⌜ r ≡ ((isPrice high && isPrice low) && le low high) ⌝ }
 {
     both(
-        both(is_price(p[0]), is_price(p[1])),
-        both(is_price(p[2]), is_price(p[3])),
+        both(0.00000095367431640625 <= low, high <= 1073741824.0),
+        low <= high,
     )
+}
+
+// Questions 6 and 8 of a row.
+fn prices_pass(p: [f64; 6]) -> bool
+    ensures { λ r. ⌜ r ≡ ((isPrice (getD p 0 nan) && isPrice (getD p 1 nan)) && ((isPrice (getD p 2 nan) && isPrice (getD p 3 nan)) && le (getD p 3 nan) (getD p 2 nan))) ⌝ }
+{
+    both(both(is_price(p[0]), is_price(p[1])), is_range(p[3], p[2]))
 }
 
 fn raw_row(p: [f64; 6]) -> bool
     ensures { λ r. ⌜ r ≡ rawRow p ⌝ }
 {
-    both(
-        prices_pass(p),
-        both(both(is_volume(p[4]), is_volume(p[5])), p[3] <= p[2]),
-    )
+    both(prices_pass(p), both(is_volume(p[4]), is_volume(p[5])))
 }
 
 fn merged_row(p: [f64; 6]) -> bool
     ensures { λ r. ⌜ r ≡ mergedRow p ⌝ }
 {
-    both(
-        prices_pass(p),
-        both(p[3] <= p[2], both(from_zero(p[4]), from_zero(p[5]))),
-    )
+    both(prices_pass(p), both(from_zero(p[4]), from_zero(p[5])))
 }
 
 pub fn raw_rows_pass(ps: &[[f64; 6]]) -> bool
@@ -277,13 +274,21 @@ fn fractals_pass(fs: &[[i64; 6]], fp: &[[f64; 18]]) -> bool
 
 // ---- elements name raw bars
 
-// Whether the raw time at place p is element j of a row.
+// Whether the time at place p is element j of a row.
+fn is_same(ts: &[i64], p: usize, row: &[i64], j: usize) -> bool
+    requires { ⌜ p < length (now ts) ⌝ ∗ ⌜ j < length (now row) ⌝ }
+    ensures { λ r. ⌜ r ≡ sameTime (getD (now (ts .entry)) p (pos 0)) (getD (now (row .entry)) j (pos 0)) ⌝ }
+{
+    both(ts[p] <= row[j], row[j] <= ts[p])
+}
+
+// Whether the raw time at place p, if any, is element j of a row.
 fn is_at(ts: &[i64], p: usize, row: &[i64], j: usize) -> bool
     requires { ⌜ j < length (now row) ⌝ }
     ensures { λ r. ⌜ r ≡ atPlace (now (ts .entry)) p (getD (now (row .entry)) j (pos 0)) ⌝ }
 {
     if p < ts.len() {
-        return both(ts[p] <= row[j], row[j] <= ts[p]);
+        return is_same(ts, p, row, j);
     }
     false
 }
@@ -299,7 +304,7 @@ fn seek(ts: &[i64], row: &[i64], j: usize, from: usize) -> usize
     }
     let n = ts.len();
     let t = row[j];
-    bars::find_time(ts, n, t)
+    stores::find_time(ts, n, t)
 }
 
 fn at_most(n: usize, m: usize) -> usize
@@ -311,18 +316,32 @@ fn at_most(n: usize, m: usize) -> usize
     m
 }
 
-// Whether a row's elements are raw times, and the place after that of the last one.
+// Whether elements are raw times, and a place to look for the next ones at: a wrong place costs time
+// only.
 struct Sought {
     named: bool,
     next: usize,
 }
 
-// The first `count` elements of a row.
-fn row_named(ts: &[i64], row: &[i64], count: usize, from: usize) -> Sought
-    requires { ⌜ length (now ts) ≤ 65536 ⌝ ∗ ⌜ T (rising (now ts)) ⌝ }
-    ensures { λ r. ⌜ (r .named ≡ every (isTime (now (ts .entry))) (take count (now (row .entry)))) × (r .next ≡ placeAfter (now (ts .entry)) from (take count (now (row .entry)))) ⌝ }
+// The first n elements of a row are the raw times from place `from` on.
+fn follow(ts: &[i64], row: &[i64], n: usize, from: usize) -> bool
+    requires { ⌜ n ≤ length (now row) ⌝ ∗ ⌜ from + n ≤ length (now ts) ⌝ ∗ ⌜ length (now ts) ≤ 65536 ⌝ }
+    ensures { λ r. ⌜ (T r → T (every (isTime (now (ts .entry))) (take n (now (row .entry))))) ⌝ }
 {
-    let n = at_most(count, row.len());
+    let mut ok = true;
+    let mut j: usize = 0;
+    while j < n {
+        ok = both(ok, is_same(ts, from + j, row, j));
+        j += 1;
+    }
+    ok
+}
+
+// The first n elements of a row, sought one by one.
+fn each_named(ts: &[i64], row: &[i64], n: usize, from: usize) -> Sought
+    requires { ⌜ n ≤ length (now row) ⌝ ∗ ⌜ length (now ts) ≤ 65536 ⌝ ∗ ⌜ T (rising (now ts)) ⌝ }
+    ensures { λ r. ⌜ r .named ≡ every (isTime (now (ts .entry))) (take n (now (row .entry))) ⌝ }
+{
     let mut ok = true;
     let mut next = from;
     let mut j: usize = 0;
@@ -335,21 +354,49 @@ fn row_named(ts: &[i64], row: &[i64], count: usize, from: usize) -> Sought
     Sought { named: ok, next }
 }
 
-// The elements of all rows.
-fn rows_named(ts: &[i64], cs: &[usize], es: &[[i64; 101]]) -> bool
+// The first `count` elements of a row. They mostly follow one another from `from` on.
+fn row_named(ts: &[i64], row: &[i64], count: usize, from: usize) -> Sought
+    requires { ⌜ length (now ts) ≤ 65536 ⌝ ∗ ⌜ T (rising (now ts)) ⌝ }
+    ensures { λ r. ⌜ r .named ≡ every (isTime (now (ts .entry))) (take count (now (row .entry))) ⌝ }
+{
+    let n = at_most(count, row.len());
+    let m = ts.len();
+    if m < from {
+        return each_named(ts, row, n, from);
+    }
+    if m - from < n {
+        return each_named(ts, row, n, from);
+    }
+    if follow(ts, row, n, from) {
+        return Sought {
+            named: true,
+            next: from + n,
+        };
+    }
+    each_named(ts, row, n, from)
+}
+
+// The elements of all rows, and the place that the last row was looked for at: the next stroke's rows
+// mostly start with that row again.
+fn rows_named(ts: &[i64], cs: &[usize], es: &[[i64; 101]], from: usize) -> Sought
     requires { ⌜ (length (now cs) ≡ length (now es)) × (length (now ts) ≤ 65536) ⌝ ∗ ⌜ T (rising (now ts)) ⌝ }
-    ensures { λ r. ⌜ r ≡ namedRows (now (ts .entry)) (now (cs .entry)) (now (es .entry)) ⌝ }
+    ensures { λ r. ⌜ r .named ≡ namedRows (now (ts .entry)) (now (cs .entry)) (now (es .entry)) ⌝ }
 {
     let mut ok = true;
-    let mut next: usize = 0;
+    let mut first = from;
+    let mut next = from;
     let mut i: usize = 0;
     while i < cs.len() {
         let s = row_named(ts, &es[i], cs[i], next);
         ok = both(ok, s.named);
+        first = next;
         next = s.next;
         i += 1;
     }
-    ok
+    Sought {
+        named: ok,
+        next: first,
+    }
 }
 
 // The raw time at place p is the last of the first `count` elements of a row.
@@ -463,12 +510,23 @@ fn unfinished_pass(rt: &[i64], ts: &[i64], ps: &[[f64; 6]], cs: &[usize], es: &[
         return false;
     }
     if cs.len() <= 1 {
-        return rows_named(rt, cs, es);
+        let s = rows_named(rt, cs, es, 0);
+        return s.named;
     }
-    rows_named(rt, &cs[1..], &es[1..])
+    let s = rows_named(rt, &cs[1..], &es[1..], 0);
+    s.named
 }
 
-// One stroke: its bars and its fractals.
+fn unsound() -> Sought
+    ensures { λ r. ⌜ r .named ≡ false ⌝ }
+{
+    Sought {
+        named: false,
+        next: 0,
+    }
+}
+
+// One stroke: its bars and its fractals. Its elements are looked for at `from`.
 fn stroke_pass(
     rt: &[i64],
     ts: &[i64],
@@ -477,28 +535,29 @@ fn stroke_pass(
     es: &[[i64; 101]],
     fs: &[[i64; 6]],
     fp: &[[f64; 18]],
-) -> bool
+    from: usize,
+) -> Sought
     requires { ⌜ (length (now cs) ≡ length (now ts)) × (length (now es) ≡ length (now ts)) × (length (now rt) ≤ 65536) ⌝ ∗ ⌜ T (rising (now rt)) ⌝ }
-    ensures { λ r. ⌜ r ≡ strokeColumns (now (rt .entry)) (now (ts .entry)) (now (ps .entry)) (now (cs .entry)) (now (es .entry)) (now (fs .entry)) (now (fp .entry)) ⌝ }
+    ensures { λ r. ⌜ r .named ≡ strokeColumns (now (rt .entry)) (now (ts .entry)) (now (ps .entry)) (now (cs .entry)) (now (es .entry)) (now (fs .entry)) (now (fp .entry)) ⌝ }
 {
     let n = ts.len();
     if n < 4 {
-        return false;
+        return unsound();
     }
     if !times_pass(ts) {
-        return false;
+        return unsound();
     }
     if !merged_rows_pass(ps) {
-        return false;
+        return unsound();
     }
     if !counts_pass(cs) {
-        return false;
+        return unsound();
     }
     if !fractals_pass(fs, fp) {
-        return false;
+        return unsound();
     }
     let e = n - 1;
-    rows_named(rt, &cs[1..e], &es[1..e])
+    rows_named(rt, &cs[1..e], &es[1..e], from)
 }
 
 // The first n strokes, of these numbers of bars and of fractals.
@@ -518,6 +577,7 @@ fn strokes_pass(
     ensures { λ r. ⌜ (r ≡ strokesColumns (now (rt .entry)) (take n bars) (take n fractals) (now (st .entry)) (now (sp .entry)) (now (sc .entry)) (now (se .entry)) (now (fs .entry)) (now (fp .entry))) × (length bars ≡ 65) × (length fractals ≡ 65) ⌝ }
 {
     let mut a: usize = 0;
+    let mut from: usize = 0;
     let mut k: usize = 0;
     while k < n {
         let b = bars[k];
@@ -527,7 +587,7 @@ fn strokes_pass(
         }
         let e = a + b;
         let g = a + f;
-        if !stroke_pass(
+        let s = stroke_pass(
             rt,
             &st[a..e],
             &sp[a..e],
@@ -535,9 +595,12 @@ fn strokes_pass(
             &se[a..e],
             &fs[a..g],
             &fp[a..g],
-        ) {
+            from,
+        );
+        if !s.named {
             return false;
         }
+        from = s.next;
         a = e;
         k += 1;
     }

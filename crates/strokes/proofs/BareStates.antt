@@ -10,8 +10,8 @@ use lib.IntN.{ℤ}
 use lib.Ieee.{Float}
 use Rattle.bars.specs.Bars.{Merged}
 use Rattle.bars.specs.Lists.{last, init, every, some-of}
-use Rattle.bars.specs.Stores.{zipWith, mergedBars}
-use Rattle.bars.proofs.KeptBars.{map-take}
+use Rattle.stores.specs.Stores.{zipWith, mergedBars}
+use Rattle.stores.proofs.KeptBars.{map-take}
 use Rattle.machine.specs.Fractals.{Fractal}
 use Rattle.machine.specs.Strokes.{Stroke}
 use Rattle.machine.specs.Stand.{State}
@@ -34,10 +34,10 @@ module _ {A B : Type 0} (f : A → B) where
   init-map (a ∷ []) = refl
   init-map (a ∷ b ∷ l) = ap (λ (r : List B). f a ∷ r) (init-map (b ∷ l))
 
-  pub drop-map : (n : ℕ) (l : List A) → drop n (map f l) ≡ map f (drop n l)
-  drop-map zero l = refl
-  drop-map (suc n) [] = refl
-  drop-map (suc n) (a ∷ l) = drop-map n l
+  pub map-drop : (n : ℕ) (l : List A) → map f (drop n l) ≡ drop n (map f l)
+  map-drop zero l = refl
+  map-drop (suc n) [] = refl
+  map-drop (suc n) (a ∷ l) = map-drop n l
 
   -- a test that does not see the change
   pub every-map : (p : B → Bool) (q : A → Bool) → ((a : A) → p (f a) ≡ q a) → (l : List A) → every p (map f l) ≡ every q l
@@ -111,7 +111,7 @@ strokes-bare [] ms ks fs h = refl
 strokes-bare (n ∷ ns) [] ks fs h = refl
 strokes-bare (n ∷ ns) (m ∷ ms) ks fs h =
     let a : map bareFractal (take m fs) ≡ take m fs = map-take bareFractal m fs ∙ ap (take m) h in
-    let d : map bareFractal (drop n fs) ≡ drop n fs = sym (drop-map bareFractal n fs) ∙ ap (drop n) h in
+    let d : map bareFractal (drop n fs) ≡ drop n fs = map-drop bareFractal n fs ∙ ap (drop n) h in
     λ i. stroke-bare (take m fs) (take n ks) a i ∷ strokes-bare ns ms (drop n ks) (drop n fs) d i
 
 pub stored-bare : (s : Stand) (m : Stores) → bareState (stateOf s m) ≡ stateOf s m

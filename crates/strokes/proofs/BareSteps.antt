@@ -18,7 +18,7 @@ use Rattle.machine.specs.Stand.{Settings, State}
 use Rattle.machine.specs.Feed.{isLater, rawWith, mergedWith, Moved, addFound, addMade, makeAfter, makeIf, make, breakIf, breakLast, moveAfter, moveIf, move}
 use Rattle.machine.specs.Feed.{shedIf, shedCount, dropEarly, Step, finishIf, finish, stepWith, step}
 use Rattle.strokes.specs.Stored.{bareBar, bareFractal, bareStroke, bareState}
-use Rattle.strokes.proofs.BareStates.{last-map, init-map, drop-map, strokes-twice}
+use Rattle.strokes.proofs.BareStates.{last-map, init-map, map-drop, strokes-twice}
 
 -- ---- making
 
@@ -98,9 +98,9 @@ move-bare minimum l bs = move-if-bare (leb 3 (length l)) minimum l bs
 
 -- ---- shedding and dropping
 
-shed-bare : (over : Bool) (bs : List Stroke) → shedIf over (map bareStroke bs) ≡ map bareStroke (shedIf over bs)
+pub shed-bare : (over : Bool) (bs : List Stroke) → shedIf over (map bareStroke bs) ≡ map bareStroke (shedIf over bs)
 unfolding shedIf
-shed-bare true bs = drop-map bareStroke 1 bs
+shed-bare true bs = sym (map-drop bareStroke 1 bs)
 shed-bare false bs = refl
 
 drop-early-bare : (bs : List Stroke) (raw : List Bar) → dropEarly (map bareStroke bs) raw ≡ dropEarly bs raw

@@ -1,6 +1,6 @@
 -- A run of raw bars merged into the unfinished store one after the other, each found by its time. Assumes nothing.
 use Prim.Native.Nat.{ℕ, _+_, _-_, _<_, _≤_}
-use mathlib.Core.Bool.{Bool, true, false, not}
+use mathlib.Core.Bool.{Bool, true, false}
 use mathlib.Core.List.{List, [], _∷_, _++_, map, append-nil, append-assoc}
 use mathlib.Core.Option.{some}
 use mathlib.Core.Path.{_≡_, refl, ap, sym, _∙_, subst}
@@ -16,15 +16,17 @@ use Rattle.bars.specs.declared.NewBar.{NewBar}
 use Rattle.bars.specs.Bars.{Merged, mergedOf}
 use Rattle.bars.specs.Lists.{keepIf, foldl, last}
 use Rattle.bars.specs.Merging.{mergeIn, mergeAll, atTimes, again}
-use Rattle.bars.specs.Stores.{RawStore, MergedStore, SizedMerged, barOf, rawBars, mergedBars, barAt, newBarAt, rising, nextIf, placeOf}
-use Rattle.bars.proofs.Columns.{raw-length, raw-at, raw-times, merged-length, merged-at}
+use Rattle.stores.specs.Stores.{RawStore, MergedStore, SizedMerged, barOf, rawBars, mergedBars, barAt, newBarAt, rising, nextIf, placeOf}
+use Rattle.stores.proofs.Columns.{raw-length, raw-at, raw-times, merged-length, merged-at}
 use Rattle.bars.proofs.MergedLists.{merge-run-grows}
-use Rattle.bars.proofs.Searching.{timed, named, nameless}
+use Rattle.stores.proofs.Searching.{timed, named, nameless}
+use Rattle.stores.proofs.KeptBars.{map-take}
 use Rattle.strokes.specs.declared.Stand.{Stand}
 use Rattle.strokes.specs.StoreSteps.{HasUnfinished, CanMerge, RisingRaw, LastHas, keptRaw, keptUnfinished, withUnfinished, mergedAgain}
 use Rattle.machine.proofs.Times.{not-lt-le, le-antisym}
-use Rattle.strokes.proofs.StoredRaw.{init-take, last-take, map-take}
+use Rattle.strokes.proofs.StoredRaw.{init-take, last-take}
 use Rattle.strokes.proofs.StoredUnfinished.{room-of, has-unfinished}
+use Rattle.arith.proofs.FloatOrder.{no}
 
 -- ---- the raw bar of a time
 
@@ -40,11 +42,22 @@ unfolding placeOf
 not-before t [] h = let w : ⊥ = omega arith in absurd w
 not-before t (a ∷ l) h = not-before-by t a l (ltZ a t) refl (not-before t l) h
 
-untrue : (b : Bool) → b ≡ false → T (not b)
-untrue b e = subst (λ (x : Bool). T (not x)) (sym e) tt
-
 noBar : Bar
 noBar = barOf (pos 0) (pos 0) []
+
+-- a stand that keeps n raw bars in a store of K places and nothing else: the laws of a time's raw bar speak of a stand
+abbrev pub keeping : ℕ → ℕ → Stand
+keeping K n =
+    record {
+      minimum = 0;
+      most = 0;
+      rooms = record { raw = K; unfinished = 0; strokes = 0 };
+      raw = n;
+      unfinished = 0;
+      strokes = 0;
+      bars = [];
+      fractals = [];
+    }
 
 module _ (s : Stand) (m : RawStore) (h : RisingRaw s m) (t : ℤ) (p : ℕ) (place : p ≡ placeOf t (take (s .raw) (m .times))) where
   kept-times : map (λ b. b .time) (keptRaw s m) ≡ take (s .raw) (m .times)
@@ -88,7 +101,7 @@ module _ (s : Stand) (m : RawStore) (h : RisingRaw s m) (t : ℤ) (p : ℕ) (pla
       let g : ltZ (getD (m .times) p (pos 0)) t ≡ false =
       ap (λ (u : ℤ). ltZ u t) (sym (getD-take (s .raw) (m .times) p (pos 0) a) ∙ ap (λ (i : ℕ). getD (take (s .raw) (m .times)) i (pos 0)) place)
       ∙ not-before t (take (s .raw) (m .times)) (omega arith) in
-      let e : x ≡ t = le-antisym x t (not-lt-le t x (untrue (ltZ t x) y)) (not-lt-le x t (untrue (ltZ x t) (ap (λ (u : ℤ). ltZ u t) q ∙ g))) in
+      let e : x ≡ t = le-antisym x t (not-lt-le t x (no (ltZ t x) y)) (not-lt-le x t (no (ltZ x t) (ap (λ (u : ℤ). ltZ u t) q ∙ g))) in
       let f : t ≡ (getD (keptRaw s m) p noBar) .time = sym e ∙ q ∙ sym (kept-time a) in
       let sized = h .sized in
       let fits = h .fits in

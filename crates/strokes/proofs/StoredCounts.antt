@@ -10,8 +10,8 @@ use lib.Seq.{take-take, take-suc-set}
 use lib.Dec.{T, leb, le→leb}
 use lib.Ieee.Fits.{and-i, and-l, and-r}
 use Rattle.bars.specs.declared.NewBar.{NewBar}
-use Rattle.bars.specs.Lists.{every}
-use Rattle.bars.specs.Stores.{MergedStore, SizedMerged, setNewBar, copiedMerged}
+use Rattle.bars.specs.Lists.{copied, every}
+use Rattle.stores.specs.Stores.{MergedStore, SizedMerged, setNewBar, copiedMerged}
 use Rattle.bars.proofs.Moves.{take-copied, run-is}
 use Rattle.strokes.specs.declared.Stand.{Stand}
 use Rattle.strokes.specs.Stored.{elementsSized}
@@ -73,11 +73,14 @@ stay-last m w n room k h one c few e t =
     subst (λ (i : ℕ). T (elementsSized i w)) g (stay-put m w (n - 1) room k h (omega arith) few e (stay-fewer m (n - 1) n (omega arith) t))
 
 -- the first j go
+pub stay-moved : (m w : MergedStore) (j n room : ℕ) → SizedMerged m room → j ≤ n → n ≤ room → w .counts ≡ copied (m .counts) 0 (m .counts) j (n - j) → StaySized n m (n - j) w
+unfolding elementsSized
+stay-moved m w j n room h a c e t =
+    subst (λ (x : List ℕ). T (every (λ k. leb k 101) x)) (sym (ap (take (n - j)) e ∙ moved-down (m .counts) j n a (rw (h .counts) c))) (every-drop (λ k. leb k 101) j (take n (m .counts)) t)
+
 pub stay-begun : (m w : MergedStore) (j n room : ℕ) → SizedMerged m room → j ≤ n → n ≤ room → w ≡ copiedMerged m 0 m j (n - j) → StaySized n m (n - j) w
-unfolding elementsSized copiedMerged
-stay-begun m w j n room h a c e t =
-    subst (λ (x : MergedStore). T (elementsSized (n - j) x)) (sym e)
-    (subst (λ (x : List ℕ). T (every (λ k. leb k 101) x)) (sym (moved-down (m .counts) j n a (rw (h .counts) c))) (every-drop (λ k. leb k 101) j (take n (m .counts)) t))
+unfolding copiedMerged
+stay-begun m w j n room h a c e = stay-moved m w j n room h a c (ap (λ (x : MergedStore). x .counts) e)
 
 -- all but the last two of so many bars of another store, from place `at` on, stand before those from place j on
 pub stay-joined : (s : Stand) (u k w : MergedStore) (at rows j : ℕ) → CanJoin s u k at rows → j ≤ s .unfinished → rows - 2 + (s .unfinished - j) ≤ s .rooms .unfinished

@@ -11,11 +11,14 @@ use lib.ListN.{length, take, drop, getD, set, length-append, length-set, length-
 use lib.Seq.{take-suc-set, drop-set-lt, drop-cons, append-snoc, getD-take, drop-drop, length-take-le}
 use lib.IntN.{ℤ}
 use lib.Ieee.{Float}
+use mir.Syntax.{w32, w64}
+use mir.Val.{SFits, toZ, ofZ}
+use mir.ValLaws.{toZ-ofZ}
 use Rattle.bars.specs.declared.Bar.{Bar}
-use Rattle.bars.specs.Bars.{Merged}
+use Rattle.bars.specs.Bars.{Merged, rowOf}
 use Rattle.bars.specs.Lists.{All}
-use Rattle.bars.specs.Stores.{RawStore, RoomRaw, zipWith, barOf, rowOf, rawBars, barAt}
-use Rattle.bars.proofs.Columns.{zip-take, zip-drop, zip-append, zip-longer, raw-at}
+use Rattle.stores.specs.Stores.{RawStore, RoomRaw, zipWith, barOf, rawBars, barAt}
+use Rattle.stores.proofs.Columns.{zip-take, zip-drop, zip-append, raw-at, raw-longer}
 use Rattle.machine.specs.declared.Mark.{Mark}
 use Rattle.machine.specs.declared.Mark.the-variants.{D, G}
 use Rattle.strokes.specs.declared.strokes_store.Written.{Written}
@@ -129,6 +132,10 @@ fxs-bare p (a ∷ b ∷ c ∷ l) =
 
 -- ---- the loop that writes them
 
+-- an id of 32 bits that is written as a stamp of 64 is read as it was
+pub stamp : (x r : ℤ) → SFits w32 x → SFits w64 r → r ≡ toZ w32 (ofZ w32 x) → toZ w64 (ofZ w64 r) ≡ x
+stamp x r h k e = toZ-ofZ w64 r k ∙ e ∙ toZ-ofZ w32 x h
+
 -- n rows have been written to l, which was d, from place `at` on; those in rest are to follow, and all of them are ans
 pub record Filled {A : Type 0} (d l : List A) (at n : ℕ) (rest ans : List A) : Type 0 where
   pub size : length l ≡ length d
@@ -229,16 +236,10 @@ take-longer n l i h k = rw length-take (omega arith)
 abbrev pub plains : RawStore → ℕ → List Merged
 plains s end = take end (map plainBar (rawBars s))
 
-raw-longer : (s : RawStore) (at : ℕ) → RoomRaw s (at + 1) → at < length (rawBars s)
-unfolding rawBars
-raw-longer s at h =
-    let e : at < length (zipWith barOf (s .times) (s .ids)) = zip-longer barOf (s .times) (s .ids) at (omega (arith, h .times)) (omega (arith, h .ids)) in
-    zip-longer (λ f p. f p) (zipWith barOf (s .times) (s .ids)) (s .prices) at e (omega (arith, h .prices))
-
-room-less : (s : RawStore) (n m : ℕ) → RoomRaw s n → m ≤ n → RoomRaw s m
+pub room-less : (s : RawStore) (n m : ℕ) → RoomRaw s n → m ≤ n → RoomRaw s m
 room-less s n m h k = record { times = omega (arith, h .times); ids = omega (arith, h .ids); prices = omega (arith, h .prices) }
 
-plain-cons : (s : RawStore) (end i : ℕ) → RoomRaw s end → i < end → drop i (plains s end) ≡ plainBar (barAt s i) ∷ drop (suc i) (plains s end)
+pub plain-cons : (s : RawStore) (end i : ℕ) → RoomRaw s end → i < end → drop i (plains s end) ≡ plainBar (barAt s i) ∷ drop (suc i) (plains s end)
 plain-cons s end i h k =
     let r = room-less s end (i + 1) h (omega arith) in
     let z = barAt s i in
@@ -296,7 +297,7 @@ unfolding lastMark
 last-some zero m h = absurd (h refl)
 last-some (suc n) m h = refl
 
-none-left : (p : Option Mark) (l : List Merged) → length l ≤ 2 → fxsAfter p l ≡ []
+pub none-left : (p : Option Mark) (l : List Merged) → length l ≤ 2 → fxsAfter p l ≡ []
 unfolding fxsAfter
 none-left p [] h = refl
 none-left p (a ∷ []) h = refl

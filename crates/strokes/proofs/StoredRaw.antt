@@ -7,16 +7,17 @@ use mathlib.Core.Path.{_≡_, refl, ap, sym, _∙_, subst}
 use native.Mathlib.Nat.{zero-add}
 use native.Mathlib.Numerals.{add-one}
 use native.Mathlib.Omega.{arith}
-use lib.ListN.{length, take, drop, getD, drop-of-length-le}
+use lib.ListN.{length, take, drop, getD, drop-of-length-le, take-append-drop}
 use lib.Seq.{drop-cons, length-take-le, getD-take}
 use lib.IntN.{ℤ, pos}
 use lib.Signed.{ltZ}
 use Rattle.bars.specs.declared.Bar.{Bar}
-use Rattle.bars.specs.Lists.{skipWhile, last, init}
-use Rattle.bars.specs.Stores.{RawStore, SizedRaw, rawBars, setBar, copied, copiedRaw, nextIf, placeOf}
+use Rattle.bars.specs.Lists.{skipWhile, last, init, copied}
+use Rattle.stores.specs.Stores.{RawStore, rawStore, SizedRaw, rawBars, setBar, copiedRaw, nextIf, placeOf}
 use Rattle.bars.proofs.Moves.{take-copied, run-is}
-use Rattle.bars.proofs.Columns.{raw-length, raw-appended, raw-copied, raw-times, sized-set, sized-copied}
-use Rattle.bars.proofs.Searching.{place-le, place-skip}
+use Rattle.stores.proofs.Columns.{raw-length, raw-appended, raw-copied, raw-times, sized-set, sized-copied}
+use Rattle.stores.proofs.Searching.{place-le, place-skip}
+use Rattle.stores.proofs.KeptBars.{map-take}
 use Rattle.strokes.specs.declared.Stand.{Stand}
 use Rattle.machine.specs.Stand.{State}
 use Rattle.machine.specs.Feed.{rawWith}
@@ -59,10 +60,9 @@ module _ {A : Type 0} where
       ∙ run-is l j (n - j)
       ∙ ap (λ (i : ℕ). drop j (take i l)) e
 
-  pub map-take : (f : A → ℤ) (n : ℕ) (l : List A) → map f (take n l) ≡ take n (map f l)
-  map-take f zero l = refl
-  map-take f (suc n) [] = refl
-  map-take f (suc n) (a ∷ l) = ap (λ (r : List ℤ). f a ∷ r) (map-take f n l)
+  copied-none : (l : List A) (n : ℕ) → copied l 0 l 0 n ≡ l
+  unfolding copied
+  copied-none l n = let z = zero-add n in ap (λ (i : ℕ). take n l ++ drop i l) z ∙ take-append-drop n l
 
   -- of the first n rows, those that a column of their times shows to come before t are passed
   pub passed : (f : A → ℤ) (t : ℤ) (l : List A) (ts : List ℤ) (n j : ℕ) → map f l ≡ ts → j ≡ placeOf t (take n ts) → skipWhile (λ x. ltZ (f x) t) (take n l) ≡ drop j (take n l)
@@ -149,3 +149,12 @@ module _ (s r : Stand) (m w : RawStore) (h : SizedRaw m (s .rooms .raw)) where
       (ap (take (n - j)) (raw-copied m m 0 j (n - j) (s .rooms .raw) (s .rooms .raw) h h)
       ∙ moved-down (rawBars m) j n a (rw (raw-length m (s .rooms .raw) h) k)
       ∙ sym (passed (λ b. b .time) t (rawBars m) (m .times) n j (raw-times m (s .rooms .raw) h) p))
+
+  -- none is earlier
+  pub none-dropped : (t : ℤ) → s .raw ≤ s .rooms .raw → 0 ≡ placeOf t (take (s .raw) (m .times)) → w ≡ m → r ≡ s → HasRaw s r w (skipWhile (λ k. ltZ (k .time) t) (keptRaw s m))
+  unfolding copiedRaw withRaw
+  none-dropped t k p f e =
+      let z : s .raw ≡ s .raw - 0 = omega arith in
+      early-dropped t 0 k p
+      (f ∙ (λ i. rawStore (sym (copied-none (m .times) (s .raw - 0)) i) (sym (copied-none (m .ids) (s .raw - 0)) i) (sym (copied-none (m .prices) (s .raw - 0)) i)))
+      (e ∙ ap (withRaw s) z)

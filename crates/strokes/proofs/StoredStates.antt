@@ -14,8 +14,9 @@ use lib.Ieee.Fits.{and-i, and-l, and-r}
 use Rattle.bars.specs.declared.Bar.{Bar}
 use Rattle.bars.specs.Bars.{Merged, mergedOf}
 use Rattle.bars.specs.Lists.{every, last, init}
-use Rattle.bars.specs.Stores.{RawStore, MergedStore, SizedRaw, SizedMerged, rawBars, mergedBars, newBarAt, rising}
-use Rattle.bars.proofs.Columns.{raw-length, raw-times, merged-length, merged-at}
+use Rattle.stores.specs.Stores.{RawStore, MergedStore, SizedRaw, SizedMerged, rawBars, mergedBars, newBarAt, rising}
+use Rattle.stores.proofs.Columns.{raw-length, raw-times, merged-length, merged-at}
+use Rattle.stores.proofs.KeptBars.{map-take}
 use Rattle.strokes.specs.declared.Stand.{Stand}
 use Rattle.machine.specs.Fractals.{Fractal}
 use Rattle.machine.specs.Strokes.{Stroke}
@@ -25,7 +26,7 @@ use Rattle.machine.specs.Feed.{mergedWith}
 use Rattle.machine.specs.Soundness.{rises, barTimes, endsOn, closes}
 use Rattle.strokes.specs.Stored.{Stores, storedFractals, strokeWith, strokesWith, barCounts, fractalCounts, stateOf, elementsSized}
 use Rattle.strokes.specs.StoreSteps.{HasRaw, HasUnfinished, RisingRaw, LastHas, keptRaw, keptUnfinished, withRaw, withUnfinished, withoutLast, storedStroke, mergedAgain}
-use Rattle.strokes.proofs.StoredRaw.{last-take, map-take}
+use Rattle.strokes.proofs.StoredRaw.{last-take}
 use Rattle.strokes.proofs.StoredUnfinished.{room-of}
 
 -- as many are kept as the stand counts
@@ -107,7 +108,7 @@ pub merged-with-again : (s : State) (b : Bar) → mergedWith false s b ≡ merge
 unfolding mergedWith mergedAgain
 merged-with-again s b = refl
 
-rises-rising : (l : List ℤ) → T (rises l) → T (rising l)
+pub rises-rising : (l : List ℤ) → T (rises l) → T (rising l)
 unfolding rises rising every
 rises-rising [] h = tt
 rises-rising (a ∷ []) h = tt

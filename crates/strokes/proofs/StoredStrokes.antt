@@ -1,6 +1,6 @@
 -- The strokes that a stand and its stroke store hold, after the oldest was shed and after one was made.
 -- Assumes nothing.
-use Prim.Native.Nat.{ℕ, zero, suc, _+_, _-_, _*_, _/_, _≤_, _<_}
+use Prim.Native.Nat.{ℕ, suc, _+_, _-_, _*_, _/_, _≤_, _<_}
 use native.Mathlib.Nat.{zero-add}
 use native.Mathlib.Numerals.{add-one}
 use native.Mathlib.Omega.{arith}
@@ -17,10 +17,12 @@ use lib.Ieee.Fits.{and-l, and-r}
 use borrow.Author.Tests.{ltb-true, ltb-false}
 use Rattle.arith.specs.Order.{maxOf, minOf}
 use Rattle.bars.specs.Bars.{Merged, mergedOf}
-use Rattle.bars.specs.Lists.{All, every, some-of, last, init}
-use Rattle.bars.specs.Stores.{RawStore, MergedStore, SizedMerged, RoomRaw, RoomMerged, rawPart, zipWith, barOf, barAt, newBarAt, rawBars, mergedBars, copied, copiedMerged}
+use Rattle.bars.specs.Lists.{All, every, some-of, last, init, copied}
+use Rattle.stores.specs.Stores.{RawStore, MergedStore, SizedMerged, RoomRaw, RoomMerged, rawPart, zipWith, barOf, barAt, newBarAt, rawBars, mergedBars, copiedMerged, MovedToStart}
 use Rattle.bars.proofs.Moves.{length-copied, take-copied, run-is, down-turn}
-use Rattle.bars.proofs.Columns.{zip-copied, zip-length, zip-at, merged-at, merged-length, merged-copied, sized-merged-copied, merged-bars}
+use Rattle.stores.proofs.Columns.{zip-copied, zip-length, zip-at, merged-at, merged-length, merged-copied, sized-merged-copied, merged-bars}
+use Rattle.stores.proofs.KeptBars.{map-take}
+use Rattle.stores.proofs.InUse.{moved-read, sized-moved}
 use Rattle.strokes.specs.declared.Stand.{Stand}
 use Rattle.check_bi.specs.declared.scan.Candle.{Candle}
 use Rattle.strokes.specs.declared.strokes_store.LastStroke.{LastStroke}
@@ -39,13 +41,18 @@ use Rattle.strokes.specs.Stored.{rowBar, fractalOf, noFractal, bareBar, 
 use Rattle.strokes.specs.Stored.{FractalStore, rowFractal, storedFractals, strokeWith, strokesWith, settingsOf, barCounts, fractalCounts, total}
 use Rattle.strokes.specs.StrokeStore.{SizedFractals, RoomFractals, keptStrokes, Fewer, Kept, Unmoved, copiedFractals, shifted, shedStand, ShedWhere}
 use Rattle.strokes.specs.StrokeStore.{plainBar, fractalsOf, pasted, putFractals, withStroke, endIf, windowsEnd, madeStroke, Makeable, Made}
-use Rattle.strokes.specs.StrokeStore.{lastPlace, lastBars, lastFractals, endPlace, rowMark, lastRead, LastStands, LastIs, withoutLast, TakenOff}
+use Rattle.strokes.specs.StrokeStore.{lastPlace, lastBars, lastFractals, endPlace, rowMark, lastRead, LastStands, LastIs, TakenOff}
 use Rattle.machine.proofs.FewerFractals.{MadeFrom, StrokeFound, stroke-found, start-read, end-read, stroke-fractals, order, end-stands}
 use Rattle.machine.proofs.Places.{fits}
+use Rattle.machine.proofs.StrokesChain.{init-snoc}
 use Rattle.check_bi.proofs.ScanPlaces.{MadeAs}
 use Rattle.strokes.specs.ElementCounts.{StaySized}
-use Rattle.strokes.proofs.StoredCounts.{stay-fewer, stay-begun, stay-added}
+use Rattle.strokes.specs.StoreSteps.{withoutLast}
+use Rattle.strokes.proofs.StoredCounts.{stay-fewer, stay-moved, stay-added}
 use Rattle.strokes.proofs.StoredFractals.{Shown, fxs-shown, sized-put, stored-put, fxs-bare}
+use Rattle.strokes.proofs.BareSteps.{shed-bare}
+use Rattle.strokes.proofs.StoredUnfinished.{room-of}
+use Rattle.strokes.proofs.BareStates.{map-drop}
 
 -- ---- what the strokes are read of
 
@@ -209,7 +216,7 @@ pub shed-means : (s r : Stand) (k : MergedStore) (f : FractalStore) (k' : Merged
     → Kept s k f
     → 1 ≤ s .strokes
     → b ≡ getD (s .bars) 0 0
-    → k' ≡ copiedMerged k 0 k b (total (barCounts s) - b)
+    → MovedToStart k b (total (barCounts s) - b) k'
     → f' ≡ copiedFractals f 0 f b (total (barCounts s) - b)
     → r ≡ shedStand s
     → barCounts r ≡ drop 1 (barCounts s)
@@ -232,7 +239,7 @@ shed-means s r k f k' f' b h one eb ek ef er ns ms =
     let less = h .strokes in
     record {
       strokes =
-          (λ i. strokesWith (ns i) (ms i) ((ap mergedBars ek ∙ merged-copied k k 0 b t room room (h .merged) (h .merged)) i)
+          (λ i. strokesWith (ns i) (ms i) (moved-read k k' b t room (h .merged) ek i)
           ((ap storedFractals ef ∙ stored-copied f f 0 b t room room (h .fractals) (h .fractals)) i))
           ∙ (λ i. strokesWith (drop 1 w) (drop 1 (fractalCounts s)) (copied (mergedBars k) 0 (mergedBars k) (eb' i) (total w - eb' i))
           (copied (storedFractals f) 0 (storedFractals f) (eb' i) (total w - eb' i)))
@@ -240,7 +247,7 @@ shed-means s r k f k' f' b h one eb ek ef er ns ms =
       kept =
           record {
             strokes = omega arith;
-            merged = subst (SizedMerged k') (sym rm) (subst (λ (x : MergedStore). SizedMerged x room) (sym ek) (sized-merged-copied k k 0 b t room room (h .merged) (h .merged) lz lt));
+            merged = subst (SizedMerged k') (sym rm) (sized-moved k k' b t room (h .merged) lt ek);
             fractals = subst (SizedFractals f') (sym rm) (subst (λ (x : FractalStore). SizedFractals x room) (sym ef) (sized-copied f f 0 b t room room (h .fractals) (h .fractals) lz lt));
             fits = rw (ns, rm, total-drop w) (omega arith);
             fewer = subst (λ (x : List ℕ). Fewer (barCounts r) x) (sym ms) (subst (λ (x : List ℕ). Fewer x (drop 1 (fractalCounts s))) (sym ns) (fewer-drop w (fractalCounts s) (h .fewer)));
@@ -254,7 +261,7 @@ shed-means s r k f k' f' b h one eb ek ef er ns ms =
           };
       elements =
           λ few. subst (λ (i : ℕ). T (elementsSized i k')) (sym (ap total ns ∙ total-drop w ∙ ap (λ (x : ℕ). total w - x) (sym eb')))
-          (stay-begun k k' b (total w) room (h .merged) g fits ek few);
+          (stay-moved k k' b (total w) room (h .merged) g fits (ek .counts) few);
     }
 
 -- the same of the numbers that the code has computed
@@ -262,7 +269,7 @@ pub shed-done : (s r : Stand) (k : MergedStore) (f : FractalStore) (k' : MergedS
     → Kept s k f
     → 1 ≤ s .strokes
     → u ≡ total (take (s .strokes) (s .bars))
-    → k' ≡ copiedMerged k 0 k (getD (s .bars) 0 0) (u - getD (s .bars) 0 0)
+    → MovedToStart k (getD (s .bars) 0 0) (u - getD (s .bars) 0 0) k'
     → f' ≡ copiedFractals f 0 f (getD (s .bars) 0 0) (u - getD (s .bars) 0 0)
     → r ≡ shedStand s
     → barCounts r ≡ drop 1 (barCounts s)
@@ -271,7 +278,7 @@ pub shed-done : (s r : Stand) (k : MergedStore) (f : FractalStore) (k' : MergedS
 unfolding barCounts
 shed-done s r k f k' f' u h one eu ek ef er ns ms =
     let b = getD (s .bars) 0 0 in
-    shed-means s r k f k' f' b h one refl (ek ∙ ap (λ (x : ℕ). copiedMerged k 0 k b (x - b)) eu) (ef ∙ ap (λ (x : ℕ). copiedFractals f 0 f b (x - b)) eu) er ns ms
+    shed-means s r k f k' f' b h one refl (subst (λ (x : ℕ). MovedToStart k b (x - b) k') eu ek) (ef ∙ ap (λ (x : ℕ). copiedFractals f 0 f b (x - b)) eu) er ns ms
 
 pub shed-not : (s : Stand) (k : MergedStore) (f : FractalStore) → Kept s k f → ShedWhere false s k f s k f
 unfolding shedIf
@@ -279,16 +286,6 @@ shed-not s k f h = record { strokes = refl; kept = h; rest = record { settings =
 
 pub first-within : (l : List ℕ) (n u : ℕ) → 1 ≤ n → u ≡ total (take n l) → getD l 0 0 ≤ u
 first-within l n u h e = let q = head-least (take n l) in let g = getD-take n l 0 0 h in omega arith
-
--- a store of so many places has room for as many
-pub room-merged : (k : MergedStore) (n m : ℕ) → SizedMerged k n → m ≤ n → RoomMerged k m
-room-merged k n m h g =
-    let r = h .raw in
-    record {
-      raw = record { times = omega (arith, r .times); ids = omega (arith, r .ids); prices = omega (arith, r .prices) };
-      counts = omega (arith, h .counts);
-      elements = omega (arith, h .elements);
-    }
 
 pub room-fractals : (f : FractalStore) (n m : ℕ) → SizedFractals f n → m ≤ n → RoomFractals f m
 room-fractals f n m h g = record { stamps = omega (arith, h .stamps); prices = omega (arith, h .prices) }
@@ -301,7 +298,7 @@ shed-rooms s k f u h one e =
     let fits = h .fits in
     let q : b ≤ u = first-within (s .bars) (s .strokes) u one e in
     let g : b + (u - b) ≤ s .rooms .strokes = omega arith in
-    (room-merged k (s .rooms .strokes) (b + (u - b)) (h .merged) g, room-fractals f (s .rooms .strokes) (b + (u - b)) (h .fractals) g)
+    (room-of k (s .rooms .strokes) (b + (u - b)) (h .merged) g, room-fractals f (s .rooms .strokes) (b + (u - b)) (h .fractals) g)
 
 -- ---- a stroke is made
 
@@ -337,22 +334,12 @@ module _ {A : Type 0} where
       let m = length-take-most n l in
       ap (λ (y : ℕ). take y l) q ∙ sym (take-all (x + 1) (take n l) (omega arith))
 
-  map-take : {B : Type 0} (g : A → B) (n : ℕ) (l : List A) → take n (map g l) ≡ map g (take n l)
-  map-take g zero l = refl
-  map-take g (suc n) [] = refl
-  map-take g (suc n) (a ∷ l) = ap (g a ∷_) (map-take g n l)
-
-  map-drop : {B : Type 0} (g : A → B) (n : ℕ) (l : List A) → drop n (map g l) ≡ map g (drop n l)
-  map-drop g zero l = refl
-  map-drop g (suc n) [] = refl
-  map-drop g (suc n) (a ∷ l) = map-drop g n l
-
-plain-bare : (l : List Merged) → map plainBar (map (λ k. k .bar) l) ≡ map bareBar l
+pub plain-bare : (l : List Merged) → map plainBar (map (λ k. k .bar) l) ≡ map bareBar l
 unfolding plainBar bareBar
 plain-bare [] = refl
 plain-bare (k ∷ l) = ap (λ (x : List Merged). bareBar k ∷ x) (plain-bare l)
 
-bare-twice : (fs : List Fractal) → map bareFractal (map bareFractal fs) ≡ map bareFractal fs
+pub bare-twice : (fs : List Fractal) → map bareFractal (map bareFractal fs) ≡ map bareFractal fs
 unfolding bareFractal bareBar
 bare-twice [] = refl
 bare-twice (f ∷ fs) = ap (λ (x : List Fractal). bareFractal f ∷ x) (bare-twice fs)
@@ -364,7 +351,7 @@ fractals-are u n first end h =
     let U = mergedBars u in
     let e : map plainBar (rawBars (rawPart u)) ≡ map bareBar U = sym (ap (map plainBar) (merged-bars u n h)) ∙ plain-bare U in
     ap (λ (x : List Merged). map bareFractal (fxsAfter none (drop first (take end x)))) e
-    ∙ ap (λ (x : List Merged). map bareFractal (fxsAfter none x)) (ap (drop first) (map-take bareBar end U) ∙ map-drop bareBar first (take end U))
+    ∙ ap (λ (x : List Merged). map bareFractal (fxsAfter none x)) (ap (drop first) (sym (map-take bareBar end U)) ∙ sym (map-drop bareBar first (take end U)))
     ∙ ap (map bareFractal) (sym (fxs-bare none (drop first (take end U))))
     ∙ bare-twice (fxsAfter none (drop first (take end U)))
 
@@ -374,12 +361,12 @@ unfolding pushIf
 few-if true f p rest n h = omega (arith, h (some (f .mark)))
 few-if false f p rest n h = omega (arith, h p)
 
-few-pushed : (p : Option Mark) (o : Option Fractal) (rest : Option Mark → List Fractal) (n : ℕ) → ((q : Option Mark) → length (rest q) ≤ n) → length (pushed p o rest) ≤ n + 1
+pub few-pushed : (p : Option Mark) (o : Option Fractal) (rest : Option Mark → List Fractal) (n : ℕ) → ((q : Option Mark) → length (rest q) ≤ n) → length (pushed p o rest) ≤ n + 1
 unfolding pushed
 few-pushed p none rest n h = omega (arith, h p)
 few-pushed p (some f) rest n h = few-if (taken p (f .mark)) f p rest n h
 
-fxs-few : (p : Option Mark) (l : List Merged) → length (fxsAfter p l) ≤ length l - 2
+pub fxs-few : (p : Option Mark) (l : List Merged) → length (fxsAfter p l) ≤ length l - 2
 unfolding fxsAfter
 fxs-few p [] = omega arith
 fxs-few p (a ∷ []) = omega arith
@@ -404,7 +391,7 @@ written-few u first bars n e h =
     let d = end-most (ltb (first + bars) n) (first + bars) in
     omega arith
 
-total-more : (ns : List ℕ) (n : ℕ) → total (ns ++ n ∷ []) ≡ total ns + n
+pub total-more : (ns : List ℕ) (n : ℕ) → total (ns ++ n ∷ []) ≡ total ns + n
 unfolding total
 total-more [] n = omega arith
 total-more (x ∷ ns) n = let e = total-more ns n in omega arith
@@ -449,7 +436,7 @@ module _ (s : Stand) (u k : MergedStore) (f : FractalStore) (first bars : ℕ) (
       let a = g .inside in
       let b = g .unfinished in
       let d = g .fits in
-      (room-merged u (s .rooms .unfinished) (first + bars) (g .merged) (omega arith), room-merged k (s .rooms .strokes) (t + bars) (h .merged) (omega arith))
+      (room-of u (s .rooms .unfinished) (first + bars) (g .merged) (omega arith), room-of k (s .rooms .strokes) (t + bars) (h .merged) (omega arith))
 
   end-inside : (e : ℕ) → e ≡ windowsEnd first bars (s .unfinished) → (first + bars ≤ e) × (e ≤ first + bars + 1) × (e ≤ s .unfinished)
   unfolding windowsEnd
@@ -462,7 +449,7 @@ module _ (s : Stand) (u k : MergedStore) (f : FractalStore) (first bars : ℕ) (
   window-room e q =
       let w = end-inside e q in
       let b = g .unfinished in
-      (room-merged u (s .rooms .unfinished) e (g .merged) (omega arith)) .raw
+      (room-of u (s .rooms .unfinished) e (g .merged) (omega arith)) .raw
 
   pub fractal-room : (e t : ℕ) → e ≡ windowsEnd first bars (s .unfinished) → t ≡ total (take (s .strokes) (s .bars)) → RoomFractals f (t + (e - first) - 2)
   unfolding barCounts
@@ -625,7 +612,7 @@ module _ {A : Type 0} where
   run-at : (l : List A) (t n i : ℕ) (z : A) → i < n → getD (take n (drop t l)) i z ≡ getD l (t + i) z
   run-at l t n i z h = getD-take n (drop t l) i z h ∙ getD-drop t l i z
 
-take-before : (l : List ℕ) (n : ℕ) → 1 ≤ n → n ≤ length l → take n l ≡ take (n - 1) l ++ getD l (n - 1) 0 ∷ []
+pub take-before : (l : List ℕ) (n : ℕ) → 1 ≤ n → n ≤ length l → take n l ≡ take (n - 1) l ++ getD l (n - 1) 0 ∷ []
 take-before l n one q =
     let e : n ≡ suc (n - 1) = omega arith in
     ap (λ (m : ℕ). take m l) e ∙ take-suc l (n - 1) 0 (omega arith)
@@ -639,7 +626,7 @@ row-low : (t : List ℤ) (p : List Float) → (rowFractal t p) .mid .bar .low �
 unfolding rowFractal fractalOf rowBar barOf
 row-low t p = getD-take 6 (drop 6 p) 3 nan (omega arith) ∙ getD-drop 6 p 3 nan
 
-row-mark : (t : List ℤ) (p : List Float) → (rowFractal t p) .mark ≡ rowMark p
+pub row-mark : (t : List ℤ) (p : List Float) → (rowFractal t p) .mark ≡ rowMark p
 unfolding rowMark rowFractal fractalOf rowBar barOf isTop
 row-mark t p = refl
 
@@ -665,7 +652,7 @@ stored-at f n i z h k = zip-at rowFractal i (f .stamps) (f .prices) [] [] z (ome
 
 time-at : (k : MergedStore) (n i : ℕ) (z : Merged) → SizedMerged k n → i < n → (getD (mergedBars k) i z) .bar .time ≡ getD (k .times) i (pos 0)
 unfolding newBarAt barAt barOf mergedOf
-time-at k n i z h g = ap (λ (x : Merged). x .bar .time) (merged-at k i z (room-merged k n (i + 1) h (omega arith)))
+time-at k n i z h g = ap (λ (x : Merged). x .bar .time) (merged-at k i z (room-of k n (i + 1) h (omega arith)))
 
 module _ (s : Stand) (k : MergedStore) (f : FractalStore) (h : Kept s k f) (g : LastStands s (s .rooms .strokes)) (lb : s .strokes ≤ length (s .bars)) (lf : s .strokes ≤ length (s .fractals)) where
   abbrev at : ℕ
@@ -848,12 +835,6 @@ kept-state s m = refl
 
 -- ---- the last stroke is taken off
 
-init-more : {A : Type 0} (l : List A) (a : A) → init (l ++ a ∷ []) ≡ l
-unfolding init
-init-more [] a = refl
-init-more (x ∷ []) a = refl
-init-more (x ∷ y ∷ l) a = ap (x ∷_) (init-more (y ∷ l) a)
-
 fewer-less : (ns ms : List ℕ) (n m : ℕ) → Fewer (ns ++ n ∷ []) (ms ++ m ∷ []) → Fewer ns ms
 fewer-less [] ms n m h = tt
 fewer-less (x ∷ ns) [] n m h = tt
@@ -878,7 +859,7 @@ taken-off s k f h one lb lf =
     let fit = h .fits in
     let sum = ap total p ∙ total-more ns x in
     record {
-      strokes = sym (ap init ((λ i. strokesWith (p i) (q i) K F) ∙ strokes-more ns ms x y K F e) ∙ init-more (strokesWith ns ms K F) b);
+      strokes = sym (ap init ((λ i. strokesWith (p i) (q i) K F) ∙ strokes-more ns ms x y K F e) ∙ init-snoc (strokesWith ns ms K F) b);
       kept =
           record {
             strokes = omega arith;
@@ -892,7 +873,7 @@ taken-off s k f h one lb lf =
 
 -- ---- the stroke that the scan finds
 
-place-of : (f : Fx) (p : Placed) → f ≡ fxPlaced p → f .place ≡ p .place
+pub place-of : (f : Fx) (p : Placed) → f ≡ fxPlaced p → f .place ≡ p .place
 unfolding fxPlaced fxAt
 place-of f p e = ap (λ (z : Fx). z .place) e
 
@@ -922,17 +903,11 @@ pub made-kept : (s r : Stand) (u k : MergedStore) (f : FractalStore) (k' : Merge
     → keptStrokes r k' f' ≡ map bareStroke (bs ++ b ∷ [])
 made-kept s r u k f k' f' first bars bs b m e q = m .strokes ∙ (λ i. e i ++ q i ∷ []) ∙ sym (map-append bareStroke bs (b ∷ []))
 
-shed-map : (over : Bool) (bs : List Stroke) → shedIf over (map bareStroke bs) ≡ map bareStroke (shedIf over bs)
-unfolding shedIf
-shed-map true [] = refl
-shed-map true (b ∷ bs) = refl
-shed-map false bs = refl
-
 pub shed-kept : (over : Bool) (s r : Stand) (k : MergedStore) (f : FractalStore) (k' : MergedStore) (f' : FractalStore) (bs : List Stroke)
     → ShedWhere over s k f r k' f'
     → keptStrokes s k f ≡ map bareStroke bs
     → keptStrokes r k' f' ≡ map bareStroke (shedIf over bs)
-shed-kept over s r k f k' f' bs m e = m .strokes ∙ ap (shedIf over) e ∙ shed-map over bs
+shed-kept over s r k f k' f' bs m e = m .strokes ∙ ap (shedIf over) e ∙ shed-bare over bs
 
 -- ---- sound strokes stand so
 
@@ -941,7 +916,7 @@ unfolding every
 every-last p [] a h = and-l (p a) true h
 every-last p (x ∷ l) a h = every-last p l a (and-r (p x) (every p (l ++ a ∷ [])) h)
 
-not-empty : {A : Type 0} (p : A → Bool) (l : List A) → T (some-of p l) → 1 ≤ length l
+pub not-empty : {A : Type 0} (p : A → Bool) (l : List A) → T (some-of p l) → 1 ≤ length l
 unfolding some-of
 not-empty p [] h = absurd h
 not-empty p (a ∷ l) h = omega arith

@@ -13,12 +13,12 @@ use lib.Ieee.{Float}
 use Rattle.bars.specs.declared.Bar.{Bar}
 use Rattle.bars.specs.declared.NewBar.{NewBar}
 use Rattle.bars.specs.Bars.{Merged, mergedOf, own}
-use Rattle.bars.specs.Lists.{last, init}
+use Rattle.bars.specs.Lists.{last, init, copied}
 use Rattle.bars.specs.Merging.{mergeIn, removeInclude}
 use Rattle.bars.specs.MergedBars.{removeIncludeAfter, inPlaceOf}
-use Rattle.bars.specs.Stores.{MergedStore, mergedStore, rawPart, SizedMerged, RoomMerged, barOf, mergedBars, barAt, newBarAt, setNewBar, copied, copiedRaw, copiedMerged, placeOf}
+use Rattle.stores.specs.Stores.{MergedStore, mergedStore, rawPart, SizedMerged, RoomMerged, barOf, mergedBars, barAt, newBarAt, setNewBar, copiedRaw, copiedMerged, placeOf}
 use Rattle.bars.proofs.Moves.{take-copied, run-is}
-use Rattle.bars.proofs.Columns.{merged-length, merged-at, merged-copied, merged-appended, merged-bars, raw-times, sized-merged-set, sized-merged-copied}
+use Rattle.stores.proofs.Columns.{merged-length, merged-at, merged-copied, merged-appended, merged-bars, raw-times, sized-merged-set, sized-merged-copied}
 use Rattle.strokes.specs.declared.Stand.{Stand}
 use Rattle.machine.specs.ByTime.{from}
 use Rattle.machine.specs.Break.{fromBar, joined}

@@ -2,7 +2,7 @@
 -- does not show it. Definitions only.
 use Prim.Native.Nat.{ℕ}
 use lib.Dec.{T}
-use Rattle.bars.specs.Stores.{MergedStore}
+use Rattle.stores.specs.Stores.{MergedStore}
 use Rattle.strokes.specs.Stored.{elementsSized}
 
 -- where none of the first n bars of the store m has more than 101 elements, none of the first k of the store w has

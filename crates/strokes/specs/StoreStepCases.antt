@@ -6,7 +6,7 @@ use Rattle.bars.specs.declared.Bar.{Bar}
 use Rattle.bars.specs.Bars.{Merged, own}
 use Rattle.bars.specs.Lists.{foldl, keepIf, skipWhile, last, init}
 use Rattle.bars.specs.Merging.{mergeIn, mergeAll, atTimes, again}
-use Rattle.bars.specs.Stores.{MergedStore, mergedStore, rawBars, zipWith, barOf, mergedWith, mergedBars}
+use Rattle.stores.specs.Stores.{MergedStore, mergedStore, rawBars, zipWith, barOf, mergedWith, mergedBars}
 use Rattle.machine.specs.ByTime.{from}
 use Rattle.machine.specs.Break.{fromBar, joined}
 use Rattle.strokes.specs.Stored.{strokeWith}

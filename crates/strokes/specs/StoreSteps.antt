@@ -9,7 +9,7 @@ use Rattle.bars.specs.declared.Bar.{Bar}
 use Rattle.bars.specs.Bars.{Merged}
 use Rattle.bars.specs.Lists.{last, init}
 use Rattle.bars.specs.Merging.{mergeAll, again}
-use Rattle.bars.specs.Stores.{RawStore, MergedStore, SizedRaw, SizedMerged, rawBars, mergedBars, rising}
+use Rattle.stores.specs.Stores.{RawStore, MergedStore, SizedRaw, SizedMerged, rawBars, mergedBars, rising}
 use Rattle.strokes.specs.declared.Stand.{Stand}
 use Rattle.machine.specs.Strokes.{Stroke}
 use Rattle.machine.specs.Break.{joined}

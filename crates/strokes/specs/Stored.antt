@@ -10,7 +10,7 @@ use lib.Ieee.{Float, nan}
 use Rattle.bars.specs.declared.Bar.{Bar}
 use Rattle.bars.specs.Bars.{Merged}
 use Rattle.bars.specs.Lists.{every}
-use Rattle.bars.specs.Stores.{RawStore, MergedStore, zipWith, barOf, rawBars, mergedBars}
+use Rattle.stores.specs.Stores.{RawStore, MergedStore, zipWith, barOf, rawBars, mergedBars}
 use Rattle.machine.specs.declared.Mark.{Mark}
 use Rattle.machine.specs.declared.Mark.the-variants.{D, G}
 use Rattle.strokes.specs.declared.Stand.{Stand}

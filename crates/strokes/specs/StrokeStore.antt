@@ -11,9 +11,9 @@ use lib.IntN.{ℤ, pos}
 use lib.Ieee.{Float, nan}
 use Rattle.arith.specs.Order.{maxOf, minOf}
 use Rattle.bars.specs.declared.Bar.{Bar}
-use Rattle.bars.specs.Bars.{Merged}
-use Rattle.bars.specs.Lists.{last, init}
-use Rattle.bars.specs.Stores.{RawStore, MergedStore, SizedMerged, rowOf, rawBars, mergedBars, copied}
+use Rattle.bars.specs.Bars.{Merged, rowOf}
+use Rattle.bars.specs.Lists.{last, init, copied}
+use Rattle.stores.specs.Stores.{RawStore, MergedStore, SizedMerged, rawBars, mergedBars}
 use Rattle.machine.specs.declared.Mark.{Mark}
 use Rattle.machine.specs.declared.Mark.the-variants.{D, G}
 use Rattle.strokes.specs.declared.Stand.{Stand}
@@ -286,19 +286,6 @@ pub record LastIs (s : Stand) (k : MergedStore) (f : FractalStore) (r : LastStro
   pub time : r .time ≡ before .bar .time
 
 -- ---- the last stroke is taken off
-
-unfoldable pub withoutLast : Stand → Stand
-withoutLast s =
-    record {
-      minimum = s .minimum;
-      most = s .most;
-      rooms = s .rooms;
-      raw = s .raw;
-      unfinished = s .unfinished;
-      strokes = s .strokes - 1;
-      bars = s .bars;
-      fractals = s .fractals;
-    }
 
 -- of a stand and its stroke store, which stays as it is: the last stroke goes
 pub record TakenOff (s : Stand) (k : MergedStore) (f : FractalStore) (r : Stand) : Type 0 where

@@ -5,7 +5,7 @@ ghost use Prim.Native.Nat.{_<_, _≤_};
 ghost use lib.ListN.{length, take};
 ghost use lib.Signed.{ltZ};
 ghost use Rattle.bars.specs.Lists.{skipWhile};
-ghost use Rattle.bars.specs.Stores.{rawStore, SizedRaw, placeOf};
+ghost use Rattle.stores.specs.Stores.{rawStore, SizedRaw, placeOf};
 ghost use Rattle.machine.specs.Feed.{rawWith};
 ghost use Rattle.strokes.specs.StoreSteps.{HasRaw, keptRaw, rawOnly};
 use crate::Stand;
@@ -44,23 +44,26 @@ impl Stand {
         let n = self.raw;
         let mut stand = self;
         if later {
-            bars::write_bar(rt, ri, rp, n, b);
+            stores::write_bar(rt, ri, rp, n, b);
             stand.raw = n + 1;
             return stand;
         }
-        bars::write_bar(rt, ri, rp, n - 1, b);
+        stores::write_bar(rt, ri, rp, n - 1, b);
         stand
     }
 
-    // The raw bars earlier than t are dropped, and the others begin the store.
+    // The raw bars earlier than t are dropped, and the others begin the store. Mostly there are none, and nothing is moved.
     pub fn drop_raw(self, rt: &mut [i64], ri: &mut [i32], rp: &mut [[f64; 6]], t: i64) -> Stand
         requires { ⌜ SizedRaw (rawStore (now rt) (now ri) (now rp)) (self .rooms .raw) ⌝ ∗ ⌜ self .raw ≤ self .rooms .raw ⌝ }
         ensures { λ r. ⌜ HasRaw self r (rawStore (now (rt .exit)) (now (ri .exit)) (now (rp .exit))) (skipWhile (λ k. ltZ (k .time) t) (keptRaw self (rawStore (now (rt .entry)) (now (ri .entry)) (now (rp .entry))))) ⌝ }
     {
         let n = self.raw;
         let k = count_before(rt, n, t);
+        if k == 0 {
+            return self;
+        }
         let left = n - k;
-        bars::move_bars_down(rt, ri, rp, k, 0, left);
+        stores::move_bars_down(rt, ri, rp, k, 0, left);
         let mut stand = self;
         stand.raw = left;
         stand

@@ -3,13 +3,15 @@ ghost use mathlib.Core.Path.{_≡_};
 ghost use Prim.Native.Nat.{_+_, _-_, _*_, _/_, _≤_, _<_};
 ghost use mathlib.Core.List.{[], _∷_, _++_};
 ghost use lib.ListN.{length, take, drop};
-ghost use Rattle.bars.specs.Stores.{rawStore, mergedStore, RoomRaw, RoomMerged, copied, copiedMerged};
+ghost use Rattle.bars.specs.Lists.{copied};
+ghost use Rattle.stores.specs.Stores.{rawStore, mergedStore, RoomRaw, RoomMerged, MovedToStart};
 ghost use Rattle.strokes.specs.Stored.{fractalStore, barCounts, fractalCounts, total};
 ghost use Rattle.machine.specs.Fractals.{taken};
 ghost use Rattle.machine.specs.Strokes.{directionOf};
 ghost use Rattle.check_bi.specs.Scan.{candleOf};
 ghost use Rattle.strokes.specs.StrokeStore.{setFractal, RoomFractals, plainBar, fractalsOf, putFractals, lastOf, writing, putFractal, putWindow};
-ghost use Rattle.strokes.specs.StrokeStore.{rowMark, LastStands, lastRead, withoutLast, Kept, Makeable, Made, ShedWhere, copiedFractals, shifted, shedStand, withStroke, windowsEnd};
+ghost use Rattle.strokes.specs.StoreSteps.{withoutLast};
+ghost use Rattle.strokes.specs.StrokeStore.{rowMark, LastStands, lastRead, Kept, Makeable, Made, ShedWhere, copiedFractals, shifted, shedStand, withStroke, windowsEnd};
 ghost use mathlib.Core.Bool.{true};
 ghost use lib.Dec.{ltb};
 use crate::Stand;
@@ -170,9 +172,9 @@ pub fn write_fractals(
     let mut w = Written { count: 0, last };
     let mut i = first;
     while i + 2 < end {
-        let a = bars::read_bar(ut, ui, up, i);
-        let b = bars::read_bar(ut, ui, up, i + 1);
-        let c = bars::read_bar(ut, ui, up, i + 2);
+        let a = stores::read_bar(ut, ui, up, i);
+        let b = stores::read_bar(ut, ui, up, i + 1);
+        let c = stores::read_bar(ut, ui, up, i + 2);
         w = put_window(fs, fp, at, w, a, b, c);
         i += 1;
     }
@@ -282,7 +284,7 @@ fn down_fractal_prices(s: &mut [[f64; 18]], from: usize, at: usize, n: usize)
     }
 }
 
-// All rows from place `from` on, n of them, to the beginning.
+// All rows from place `from` on, n of them, to the beginning; of the rows of elements what is in use.
 fn move_strokes_down(
     st: &mut [i64],
     si: &mut [i32],
@@ -295,9 +297,9 @@ fn move_strokes_down(
     n: usize,
 )
     requires { ⌜ RoomMerged (mergedStore (now st) (now si) (now sp) (now sc) (now se)) (from + n) ⌝ ∗ ⌜ RoomFractals (fractalStore (now fs) (now fp)) (from + n) ⌝ }
-    ensures { λ _. ⌜ ((mergedStore (now (st .exit)) (now (si .exit)) (now (sp .exit)) (now (sc .exit)) (now (se .exit))) ≡ copiedMerged (mergedStore (now (st .entry)) (now (si .entry)) (now (sp .entry)) (now (sc .entry)) (now (se .entry))) 0 (mergedStore (now (st .entry)) (now (si .entry)) (now (sp .entry)) (now (sc .entry)) (now (se .entry))) from n) × ((fractalStore (now (fs .exit)) (now (fp .exit))) ≡ copiedFractals (fractalStore (now (fs .entry)) (now (fp .entry))) 0 (fractalStore (now (fs .entry)) (now (fp .entry))) from n) ⌝ }
+    ensures { λ _. ⌜ MovedToStart (mergedStore (now (st .entry)) (now (si .entry)) (now (sp .entry)) (now (sc .entry)) (now (se .entry))) from n (mergedStore (now (st .exit)) (now (si .exit)) (now (sp .exit)) (now (sc .exit)) (now (se .exit))) × ((fractalStore (now (fs .exit)) (now (fp .exit))) ≡ copiedFractals (fractalStore (now (fs .entry)) (now (fp .entry))) 0 (fractalStore (now (fs .entry)) (now (fp .entry))) from n) ⌝ }
 {
-    bars::move_new_bars_down(st, si, sp, sc, se, from, 0, n);
+    stores::move_new_bars_to_start(st, si, sp, sc, se, from, n);
     down_stamps(fs, from, 0, n);
     down_fractal_prices(fp, from, 0, n);
 }
@@ -384,7 +386,7 @@ pub fn make_stroke(
     let n = stand.unfinished;
     let used = total_bars(counts, k);
     let end = windows_end(first, bars, n);
-    bars::join_new_bars(ut, ui, up, uc, ue, first, st, si, sp, sc, se, used, bars);
+    stores::join_new_bars(ut, ui, up, uc, ue, first, st, si, sp, sc, se, used, bars);
     let m = write_fractals(ut, ui, up, first, end, fs, fp, used);
     with_stroke(stand, bars, m)
 }

@@ -4,7 +4,7 @@ ghost use mathlib.Core.List.{[], _∷_};
 ghost use Prim.Native.Nat.{_+_, _≤_};
 ghost use lib.ListN.{drop};
 ghost use lib.Dec.{T};
-ghost use Rattle.bars.specs.Stores.{rawStore, mergedStore, SizedMerged, RoomMerged, copiedMerged};
+ghost use Rattle.stores.specs.Stores.{rawStore, mergedStore, SizedMerged, RoomMerged, copiedMerged};
 ghost use Rattle.bars.specs.Merging.{mergeIn, mergeAll, atTimes};
 ghost use Rattle.machine.specs.Break.{joined};
 ghost use Rattle.strokes.specs.StoreSteps.{HasUnfinished, CanMerge, RisingRaw, LastHas, CanJoin, mergedAgain, keptRaw, keptUnfinished, withoutLast, storedStroke};
@@ -28,7 +28,7 @@ fn bring_down(
     requires { ⌜ at ≤ from ⌝ ∗ ⌜ RoomMerged (mergedStore (now ut) (now ui) (now up) (now uc) (now ue)) (from + n) ⌝ }
     ensures { λ _. ⌜ (mergedStore (now (ut .exit)) (now (ui .exit)) (now (up .exit)) (now (uc .exit)) (now (ue .exit))) ≡ copiedMerged (mergedStore (now (ut .entry)) (now (ui .entry)) (now (up .entry)) (now (uc .entry)) (now (ue .entry))) at (mergedStore (now (ut .entry)) (now (ui .entry)) (now (up .entry)) (now (uc .entry)) (now (ue .entry))) from n ⌝ }
 {
-    bars::move_new_bars_down(
+    stores::move_new_bars_down(
         &mut ut[at..],
         &mut ui[at..],
         &mut up[at..],
@@ -54,7 +54,7 @@ fn bring_up(
     requires { ⌜ from ≤ at ⌝ ∗ ⌜ RoomMerged (mergedStore (now ut) (now ui) (now up) (now uc) (now ue)) (at + n) ⌝ }
     ensures { λ _. ⌜ (mergedStore (now (ut .exit)) (now (ui .exit)) (now (up .exit)) (now (uc .exit)) (now (ue .exit))) ≡ copiedMerged (mergedStore (now (ut .entry)) (now (ui .entry)) (now (up .entry)) (now (uc .entry)) (now (ue .entry))) at (mergedStore (now (ut .entry)) (now (ui .entry)) (now (up .entry)) (now (uc .entry)) (now (ue .entry))) from n ⌝ }
 {
-    bars::move_new_bars_up(
+    stores::move_new_bars_up(
         &mut ut[from..],
         &mut ui[from..],
         &mut up[from..],
@@ -103,7 +103,7 @@ impl Stand {
     {
         let n = self.unfinished;
         let left = n - k;
-        bars::move_new_bars_down(ut, ui, up, uc, ue, k, 0, left);
+        stores::move_new_bars_down(ut, ui, up, uc, ue, k, 0, left);
         let mut stand = self;
         stand.unfinished = left;
         stand
@@ -126,19 +126,19 @@ impl Stand {
         let mut stand = self;
         if n < 2 {
             let own = bars::new_from_raw(b);
-            bars::write_new_bar(ut, ui, up, uc, ue, n, own);
+            stores::write_new_bar(ut, ui, up, uc, ue, n, own);
             stand.unfinished = n + 1;
             return stand;
         }
-        let k1 = bars::read_bar(ut, ui, up, n - 2);
-        let k2 = bars::read_new_bar(ut, ui, up, uc, ue, n - 1);
+        let k1 = stores::read_bar(ut, ui, up, n - 2);
+        let k2 = stores::read_new_bar(ut, ui, up, uc, ue, n - 1);
         let found = bars::remove_include(k1.high, k2, b);
         let k = found.bar;
         if found.merged {
-            bars::write_new_bar(ut, ui, up, uc, ue, n - 1, k);
+            stores::write_new_bar(ut, ui, up, uc, ue, n - 1, k);
             return stand;
         }
-        bars::write_new_bar(ut, ui, up, uc, ue, n, k);
+        stores::write_new_bar(ut, ui, up, uc, ue, n, k);
         stand.unfinished = n + 1;
         stand
     }
@@ -160,12 +160,12 @@ impl Stand {
         ensures { λ r. ⌜ (HasUnfinished self r (mergedStore (now (ut .exit)) (now (ui .exit)) (now (up .exit)) (now (uc .exit)) (now (ue .exit))) (mergeAll (keptUnfinished self (mergedStore (now (ut .entry)) (now (ui .entry)) (now (up .entry)) (now (uc .entry)) (now (ue .entry)))) (atTimes (keptRaw self (rawStore (now (rt .entry)) (now (ri .entry)) (now (rp .entry)))) (t ∷ [])))) × (StaySized (self .unfinished) (mergedStore (now (ut .entry)) (now (ui .entry)) (now (up .entry)) (now (uc .entry)) (now (ue .entry))) (r .unfinished) (mergedStore (now (ut .exit)) (now (ui .exit)) (now (up .exit)) (now (uc .exit)) (now (ue .exit)))) ⌝ }
     {
         let n = self.raw;
-        let p = bars::find_time(rt, n, t);
+        let p = stores::find_time(rt, n, t);
         if p < n {
             if t < rt[p] {
                 return self;
             }
-            let b = bars::read_bar(rt, ri, rp, p);
+            let b = stores::read_bar(rt, ri, rp, p);
             return self.put_merged(ut, ui, up, uc, ue, b);
         }
         self
@@ -190,7 +190,7 @@ impl Stand {
     {
         let n = self.unfinished;
         let at = n - 1;
-        let newest = bars::read_new_bar(ut, ui, up, uc, ue, at);
+        let newest = stores::read_new_bar(ut, ui, up, uc, ue, at);
         let old = newest.count - 1;
         let elements = newest.elements;
         let mut stand = self;
@@ -233,7 +233,7 @@ impl Stand {
         let left = n - j;
         let all = front + left;
         bring(ut, ui, up, uc, ue, j, front, left);
-        bars::join_new_bars(st, si, sp, sc, se, at, ut, ui, up, uc, ue, 0, front);
+        stores::join_new_bars(st, si, sp, sc, se, at, ut, ui, up, uc, ue, 0, front);
         let mut stand = self;
         stand.unfinished = all;
         stand.strokes = kept;

@@ -12,7 +12,6 @@ use lib.Dec.{T, leb, leb→le}
 use lib.Ieee.Fits.{and-l, and-r}
 use Rattle.bars.specs.Bars.{Merged}
 use Rattle.bars.specs.Lists.{every, some-of, last, init}
-use Rattle.machine.specs.Fractals.{Placed}
 use Rattle.machine.specs.Strokes.{Stroke, Found, strokeAt, checkBi, cut}
 use Rattle.machine.specs.Break.{breaks, joined}
 use Rattle.machine.specs.Feed.{Moved, addFound, addMade, makeAfter, makeIf, make, breakIf, breakLast, moveAfter, moveIf, move, shedIf, shedCount}
@@ -20,16 +19,15 @@ use Rattle.machine.specs.Soundness.{alternates, sameFractal, isStroke}
 use Rattle.machine.proofs.Places.{fits}
 use Rattle.machine.proofs.FewerFractals.{nothingFound, end-stands, order}
 use Rattle.check_bi.specs.declared.scan.FoundBi.{FoundBi}
-use Rattle.check_bi.specs.declared.scan.Fx.{Fx}
-use Rattle.check_bi.specs.Scan.{fxPlaced, fxAt, candleOf}
+use Rattle.check_bi.specs.Scan.{candleOf}
 use Rattle.check_bi.proofs.ScanPlaces.{MadeAs, Means}
 use Rattle.strokes.specs.Stored.{bareStroke, strokeWith}
 use Rattle.strokes.specs.StrokeStore.{madeStroke}
-use Rattle.strokes.proofs.StoredStrokes.{found-is, made-cut}
+use Rattle.strokes.proofs.StoredStrokes.{found-is, made-cut, place-of}
 use Rattle.asking.specs.declared.plan.Last.{Last}
 use Rattle.asking.specs.declared.plan.Plan.{Plan}
 use Rattle.asking.specs.Asked.{lastOf, timeOr0}
-use Rattle.asking.proofs.PlanMeans.{LastIs, KeptLast, Planned, plan-means}
+use Rattle.asking.proofs.PlanMeans.{LastIs, KeptLast, Planned, plan-means, add-unbroken}
 use Rattle.writing.specs.WriteSteps.{addIf, restOf}
 use Rattle.writing.specs.Written.{planWith}
 
@@ -92,11 +90,6 @@ break-last : (m : Moved) (o : Option Stroke) → last (m .kept) ≡ o → m .bro
 unfolding breakLast
 break-last m none q h e = absurd (omega arith)
 break-last m (some b) q h e = break-if (breaks b (last (m .left))) m b q h e
-
-add-unbroken : (o : Option Stroke) (bs : List Stroke) (r : List Merged) → (addFound o bs r) .broken ≡ 0
-unfolding addFound
-add-unbroken none bs r = refl
-add-unbroken (some s) bs r = refl
 
 after-unbroken : (minimum : ℕ) (l : List Merged) (bs : List Stroke) → (makeAfter minimum l bs) .broken ≡ 0
 unfolding makeAfter addMade
@@ -183,10 +176,6 @@ pub record MakesAs (minimum : ℕ) (l : List Merged) (bs : List Stroke) (p : Pla
   pub full : Full bs → Full ((make minimum l bs) .kept)
   pub inside : p .found .made ≡ true → p .cut + p .found .start .place + p .found .bars ≤ length l
 
-at-place : (f : Fx) (q : Placed) → f ≡ fxPlaced q → f .place ≡ q .place
-unfolding fxPlaced fxAt
-at-place f q e = ap (λ (z : Fx). z .place) e
-
 module _ (minimum : ℕ) (l : List Merged) (bs : List Stroke) (b : Stroke) (p : Plan) (h : Planned minimum l bs b p) where
   abbrev k : List Merged
   k = drop (p .cut) l
@@ -237,7 +226,7 @@ module _ (minimum : ℕ) (l : List Merged) (bs : List Stroke) (b : Stroke) (p : 
         h .makes ∙ ap (λ (x : Found). addFound (x .stroke) bs rest) (m .from .found) in
         let first = p .cut + p .found .start .place in
         let i = order minimum k o (m .from) in
-        let a = at-place (p .found .start) (m .from .start) (m .start) in
+        let a = place-of (p .found .start) (m .from .start) (m .start) in
         let read : bareStroke w ≡ madeStroke l first (p .found .bars) =
         sym (found-is minimum k (p .found) m) ∙ made-cut l (p .cut) (p .found .start .place) (p .found .bars) in
         record {

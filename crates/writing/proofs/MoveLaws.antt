@@ -11,8 +11,8 @@ use lib.Seq.{length-take-le, take-suc}
 use lib.Dec.{T, leb, leb→le, ltb}
 use Rattle.bars.specs.Bars.{Merged}
 use Rattle.bars.specs.Lists.{last, init}
-use Rattle.bars.specs.Stores.{MergedStore, SizedMerged, rawStore, mergedBars}
-use Rattle.bars.proofs.Columns.{merged-length}
+use Rattle.stores.specs.Stores.{MergedStore, SizedMerged, rawStore, mergedBars}
+use Rattle.stores.proofs.Columns.{merged-length}
 use Rattle.machine.specs.Fractals.{Fractal}
 use Rattle.machine.specs.Strokes.{Stroke, checkBi}
 use Rattle.machine.specs.Break.{joined}
@@ -27,9 +27,8 @@ use Rattle.strokes.specs.Stored.{FractalStore, Stores, strokeWith, strokesWith,
 use Rattle.strokes.specs.ElementCounts.{StaySized}
 use Rattle.strokes.specs.StoreSteps.{HasUnfinished, keptUnfinished, withUnfinished, withoutLast, storedStroke}
 use Rattle.strokes.specs.StrokeStore.{Kept, Unmoved, ShedWhere, keptStrokes, madeStroke, lastPlace, lastBars}
-use Rattle.strokes.specs.StrokeStore as store
 use Rattle.strokes.proofs.StoredStates.{kept-unfinished, joined-stored}
-use Rattle.strokes.proofs.StoredStrokes.{length-take-most, strokes-more, strokes-length, taken-off, shed-kept}
+use Rattle.strokes.proofs.StoredStrokes.{length-take-most, strokes-more, strokes-length, taken-off, shed-kept, take-before}
 use Rattle.strokes.proofs.StoredCounts.{stay-fewer}
 use Rattle.strokes.proofs.BareStates.{last-map, init-map, stored-bare}
 use Rattle.asking.specs.declared.plan.Plan.{Plan}
@@ -39,8 +38,9 @@ use Rattle.writing.specs.declared.Wrote.{Wrote}
 use Rattle.writing.specs.WriteSteps.{CanMake, MadeWhere, CanBreak, CanLeave, addIf, leftStand, leftBars, restOf}
 use Rattle.writing.specs.Written.{CanMove, HasLeft, HasMoved, madeOf, movedOf, planWith, overOf}
 use Rattle.writing.proofs.PlanInView.{rest-in-view}
-use Rattle.writing.proofs.StepLaws.{left-fits, left-rooms, take-before, last-sum, bars-are, counts-alike}
+use Rattle.writing.proofs.StepLaws.{left-fits, left-rooms, last-sum}
 use Rattle.writing.proofs.MachineMoves.{Full, full-sound, full-last, full-init, Breaks, move-breaks, make-unbroken, HasPlan, has-plan, MakesAs, makes-as}
+use Rattle.sound.proofs.SoundFacts.{bars-are, counts-alike}
 
 -- ---- the last stroke's rows
 
@@ -290,10 +290,6 @@ module _ (s : Stand) (u k : MergedStore) (f : FractalStore) (p : Plan) (h : CanM
     unfolding withoutLast
     off-raw = refl
 
-    off-same : store.withoutLast v ≡ withoutLast v
-    unfolding withoutLast store.withoutLast
-    off-same = refl
-
     off-fewer : 1 ≤ v .strokes → total (barCounts (withoutLast v)) ≤ total (barCounts v)
     unfolding withoutLast barCounts lastPlace
     off-fewer one = let few = g .kept .strokes in omega (arith, last-sum v one (omega arith))
@@ -308,8 +304,8 @@ module _ (s : Stand) (u k : MergedStore) (f : FractalStore) (p : Plan) (h : CanM
         let off = taken-off v k' f' (g .kept) one (omega arith) (omega arith) in
         left-from (withoutLast v) r u' (joined (storedStroke k' (lastPlace v) (lastBars v)) (drop (restOf p) (keptUnfinished v u))) q
         (joins-as b ∙ sym (ap (λ (m : Moved). m .left) (b .is)))
-        (subst (λ (x : Stand). Kept x k' f') off-same (off .kept))
-        (ap (λ (x : Stand). keptStrokes x k' f') (sym off-same) ∙ off .strokes ∙ ap init kept-bare ∙ init-map bareStroke (M0 .kept) ∙ ap (λ (m : Moved). map bareStroke (m .kept)) (sym (b .is)))
+        (off .kept)
+        (off .strokes ∙ ap init kept-bare ∙ init-map bareStroke (M0 .kept) ∙ ap (λ (m : Moved). map bareStroke (m .kept)) (sym (b .is)))
         (off-settings ∙ g .rest .settings) (off-rooms ∙ g .rest .rooms) (off-raw ∙ g .rest .raw) (off-fewer one) stay
 
     left-kept : (r : Stand) (u' : MergedStore) → p .broken ≡ false → HasUnfinished v r u' (drop (restOf p) (keptUnfinished v u))

@@ -9,12 +9,12 @@ use lib.IntN.{ℤ}
 use lib.Dec.{eqb, leb, ltb}
 use Rattle.machine.specs.declared.Mark.the-variants.{D, G}
 use Rattle.machine.specs.Fractals.{sameMark, beyond}
-use Rattle.machine.specs.Strokes.{bestIf}
 use Rattle.check_bi.specs.declared.scan.Candle.{Candle}
 use Rattle.check_bi.specs.declared.scan.Fx.{Fx}
 use Rattle.check_bi.specs.declared.scan.Scan.{Scan}
 use Rattle.check_bi.specs.declared.scan.FoundBi.{FoundBi}
 use Rattle.check_bi.specs.Scan.{valueOf, fxAt, cutWith, closesOf, putIf, putOf, noFx, blank, openedOf, takeIf, takeOf, topOf, bottomOf, stepIf, stepOf, scanFrom, scanOf, holdsOf, barsTo, foundIf, foundOf}
+use Rattle.check_bi.proofs.ScanViews.{best-place}
 use Rattle.asking.specs.declared.plan.Last.{Last}
 use Rattle.asking.specs.declared.plan.Plan.{Plan}
 use Rattle.asking.specs.FeedPlan.{cutOf, foundFrom, breaksOf, lastWith, keptOf, brokenIf, brokenOf, joinOf, timesOf, lastCandle, planIf, planOf}
@@ -26,17 +26,12 @@ record Within (s : Scan) (i : ℕ) : Type 0 where
   end-in : s .end .place ≤ i
   cut-in : s .cut .place ≤ i
 
-best-in : (t : Bool) (f a : Fx) (i : ℕ) → f .place ≤ i → a .place ≤ i → (bestIf t f a) .place ≤ i
-unfolding bestIf
-best-in true f a i h k = h
-best-in false f a i h k = k
-
 put-in : (t : Bool) (s : Scan) (f : Fx) (i : ℕ) → f .place ≤ i → Within s i → Within (putIf t s f) i
 unfolding putIf cutWith
 put-in true s f i h w =
-    record { end-in = h; cut-in = best-in (sameMark (s .cut .mark) (f .mark) && not (beyond (s .cut .mark) (valueOf (s .cut)) (valueOf f))) f (s .cut) i h (w .cut-in) }
+    record { end-in = h; cut-in = best-place (sameMark (s .cut .mark) (f .mark) && not (beyond (s .cut .mark) (valueOf (s .cut)) (valueOf f))) f (s .cut) i h (w .cut-in) }
 put-in false s f i h w =
-    record { end-in = w .end-in; cut-in = best-in (sameMark (s .cut .mark) (f .mark) && not (beyond (s .cut .mark) (valueOf (s .cut)) (valueOf f))) f (s .cut) i h (w .cut-in) }
+    record { end-in = w .end-in; cut-in = best-place (sameMark (s .cut .mark) (f .mark) && not (beyond (s .cut .mark) (valueOf (s .cut)) (valueOf f))) f (s .cut) i h (w .cut-in) }
 
 take-in : (n m : Bool) (s : Scan) (f : Fx) (i : ℕ) → f .place ≤ i → Within s i → Within (takeIf n m s f) i
 unfolding takeIf openedOf putOf

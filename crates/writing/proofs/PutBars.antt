@@ -5,7 +5,7 @@ use mathlib.Core.Path.{_≡_, refl, ap, sym, subst}
 use Rattle.bars.specs.declared.Bar.{Bar}
 use Rattle.bars.specs.Bars.{Merged}
 use Rattle.bars.specs.Merging.{mergeIn}
-use Rattle.bars.specs.Stores.{RawStore, MergedStore}
+use Rattle.stores.specs.Stores.{RawStore, MergedStore}
 use Rattle.machine.specs.Feed.{mergedWith}
 use Rattle.strokes.specs.declared.Stand.{Stand}
 use Rattle.strokes.specs.StoreSteps.{HasUnfinished, CanMerge, mergedAgain, keptRaw, keptUnfinished}

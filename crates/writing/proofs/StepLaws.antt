@@ -2,27 +2,25 @@
 use Prim.Native.Nat.{ℕ, zero, suc, _+_, _-_, _<_, _≤_}
 use native.Mathlib.Omega.{arith}
 use mathlib.Core.Bool.{Bool, true, false}
-use mathlib.Core.List.{List, [], _∷_, _++_}
+use mathlib.Core.List.{List}
 use mathlib.Core.Path.{_≡_, refl, ap, sym, _∙_, subst}
-use lib.ListN.{length, take, drop, getD, length-take, length-drop}
-use lib.Seq.{take-suc, length-take-le}
+use lib.ListN.{length, take, drop, getD, length-take}
 use lib.Dec.{T}
 use lib.IntN.{ℤ, pos}
 use lib.Signed.{ltZ}
 use Rattle.bars.specs.declared.Bar.{Bar}
 use Rattle.bars.specs.Bars.{Merged}
 use Rattle.bars.specs.Lists.{skipWhile}
-use Rattle.bars.specs.Stores.{RawStore, MergedStore, SizedRaw, SizedMerged, rawBars, mergedBars}
-use Rattle.bars.proofs.Columns.{raw-length, merged-length}
+use Rattle.stores.specs.Stores.{RawStore, MergedStore, SizedRaw, SizedMerged, rawBars, mergedBars}
+use Rattle.stores.proofs.Columns.{raw-length, merged-length}
 use Rattle.machine.specs.Strokes.{Stroke}
-use Rattle.machine.specs.Fractals.{Fractal}
 use Rattle.machine.specs.Break.{joined}
-use Rattle.machine.specs.Soundness.{barsOf}
 use Rattle.strokes.specs.declared.Stand.{Stand}
-use Rattle.strokes.specs.Stored.{FractalStore, barCounts, fractalCounts, total, strokeWith, strokesWith, elementsSized}
+use Rattle.strokes.specs.Stored.{FractalStore, barCounts, total, elementsSized}
 use Rattle.strokes.specs.StoreSteps.{HasRaw, HasUnfinished, CanJoin, keptRaw, keptUnfinished, withRaw, withUnfinished, withoutLast, storedStroke}
 use Rattle.strokes.specs.StrokeStore.{Kept, Unmoved, Made, keptStrokes, madeStroke, lastPlace, lastBars}
 use Rattle.strokes.proofs.StoredStates.{kept-unfinished}
+use Rattle.strokes.proofs.StoredStrokes.{take-before, total-more}
 use Rattle.writing.specs.WriteSteps.{MadeWhere, CanBreak, addIf, leftStand, leftBars, dropEarlier}
 
 -- ---- the unfinished bars begin at a place
@@ -39,16 +37,6 @@ begun-none s u k h g e =
     record { bars = d; stand = itself s ∙ ap (withUnfinished s) (sym (kept-unfinished s u h g) ∙ ap length d); sized = h }
 
 -- ---- the last stroke is joined
-
-pub take-before : (l : List ℕ) (n : ℕ) → 1 ≤ n → n ≤ length l → take n l ≡ take (n - 1) l ++ getD l (n - 1) 0 ∷ []
-take-before l n one q =
-    let e : n ≡ suc (n - 1) = omega arith in
-    ap (λ (m : ℕ). take m l) e ∙ take-suc l (n - 1) 0 (omega arith)
-
-total-more : (ns : List ℕ) (n : ℕ) → total (ns ++ n ∷ []) ≡ total ns + n
-unfolding total
-total-more [] n = omega arith
-total-more (x ∷ ns) n = omega (arith, total-more ns n)
 
 pub last-sum : (s : Stand) → 1 ≤ s .strokes → s .strokes ≤ length (s .bars) → total (barCounts s) ≡ lastPlace s + lastBars s
 unfolding barCounts lastPlace lastBars
@@ -197,16 +185,3 @@ module _ (made : Bool) (s : Stand) (u k : MergedStore) (f : FractalStore) (first
       (record { strokes = refl; kept = h; rest = record { settings = refl; rooms = refl; raw = refl; unfinished = refl }; elements = λ a b. b })
 
 -- ---- as many are kept as are counted
-
-pub counts-alike : (s : Stand) → length (s .bars) ≡ 65 → length (s .fractals) ≡ 65 → length (barCounts s) ≡ length (fractalCounts s)
-unfolding barCounts fractalCounts
-counts-alike s lb lf = omega (arith, length-take (s .strokes) (s .bars), length-take (s .strokes) (s .fractals))
-
-pub bars-are : (ns ms : List ℕ) (ks : List Merged) (fs : List Fractal) → length ns ≡ length ms → total ns ≤ length ks → barsOf (strokesWith ns ms ks fs) ≡ total ns
-unfolding strokesWith strokeWith barsOf total
-bars-are [] ms ks fs e h = refl
-bars-are (n ∷ ns) [] ks fs e h = absurd (omega arith)
-bars-are (n ∷ ns) (m ∷ ms) ks fs e h =
-    let a : length (take n ks) ≡ n = length-take-le n ks (omega arith) in
-    let b = bars-are ns ms (drop n ks) (drop n fs) (omega arith) (omega (arith, length-drop n ks)) in
-    λ j. a j + b j

@@ -15,8 +15,8 @@ use Rattle.bars.specs.declared.Bar.{Bar}
 use Rattle.bars.specs.Bars.{Merged}
 use Rattle.bars.specs.Lists.{every, last, skipWhile}
 use Rattle.bars.specs.Questions.{firstFailed}
-use Rattle.bars.specs.Stores.{RawStore, MergedStore, SizedRaw, SizedMerged, rawPart, rawBars, mergedBars}
-use Rattle.bars.proofs.Columns.{merged-bars, raw-times}
+use Rattle.stores.specs.Stores.{RawStore, MergedStore, SizedRaw, SizedMerged, rawPart, rawBars, mergedBars}
+use Rattle.stores.proofs.Columns.{merged-bars, raw-times}
 use Rattle.machine.specs.Fractals.{Fractal}
 use Rattle.machine.specs.Strokes.{Stroke}
 use Rattle.machine.specs.Stand.{Settings, State}
@@ -34,6 +34,7 @@ use Rattle.strokes.proofs.StoredStates.{state-raw}
 use Rattle.strokes.proofs.StoredStrokes.{kept-state}
 use Rattle.sound.specs.SoundStand.{storesOf}
 use Rattle.sound.proofs.SoundFacts.{Facts, facts}
+use Rattle.sound.proofs.SoundScans.{holds}
 use Rattle.asking.specs.declared.plan.Plan.{Plan}
 use Rattle.asking.specs.Asked.{planFor}
 use Rattle.writing.specs.declared.Wrote.{Wrote}
@@ -125,14 +126,11 @@ module _ (s : Stand) (k : MergedStore) (f : FractalStore) (bs : List Stroke) (h 
 
 -- ---- sizes as tests
 
-yes : {b : Bool} → b ≡ true → T b
-yes e = subst T (sym e) tt
-
 is-le : (a b : ℕ) → a ≤ b → T (leb a b)
-is-le a b h = yes (le-leb a b h)
+is-le a b h = holds (le-leb a b h)
 
 is-eq : (a b : ℕ) → a ≡ b → T (eqb a b)
-is-eq a b h = yes (eq-eqb a b h)
+is-eq a b h = holds (eq-eqb a b h)
 
 raw-test : (n : ℕ) (m : RawStore) → SizedRaw m n → T (rawSized n m)
 unfolding rawSized

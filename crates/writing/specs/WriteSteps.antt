@@ -11,7 +11,7 @@ use lib.Signed.{ltZ}
 use Rattle.bars.specs.declared.Bar.{Bar}
 use Rattle.bars.specs.Bars.{Merged}
 use Rattle.bars.specs.Lists.{skipWhile}
-use Rattle.bars.specs.Stores.{RawStore, MergedStore, SizedRaw, SizedMerged}
+use Rattle.stores.specs.Stores.{RawStore, MergedStore, SizedRaw, SizedMerged}
 use Rattle.machine.specs.Strokes.{Stroke}
 use Rattle.machine.specs.Break.{joined}
 use Rattle.machine.specs.Stand.{State}

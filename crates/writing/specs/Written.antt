@@ -8,7 +8,7 @@ use lib.Dec.{T, ltb}
 use Rattle.bars.specs.declared.Bar.{Bar}
 use Rattle.bars.specs.Bars.{Merged}
 use Rattle.bars.specs.Lists.{every, last}
-use Rattle.bars.specs.Stores.{MergedStore, SizedMerged}
+use Rattle.stores.specs.Stores.{MergedStore, SizedMerged}
 use Rattle.machine.specs.Strokes.{Stroke}
 use Rattle.machine.specs.Feed.{Moved, Events, isLater, make, move, shedIf, shedCount, step}
 use Rattle.machine.specs.FeedQuestions.{movedFits, failedAfter4}

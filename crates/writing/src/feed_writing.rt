@@ -1,5 +1,5 @@
 // What a feed of a bar that passed its questions writes to the lent stores.
-ghost use Rattle.bars.specs.Stores.{rawStore, mergedStore};
+ghost use Rattle.stores.specs.Stores.{rawStore, mergedStore};
 ghost use Rattle.sound.specs.SoundStand.{storesOf};
 ghost use Rattle.strokes.specs.Stored.{fractalStore};
 ghost use Rattle.writing.specs.Written.{CanWrite, IsWritten};

@@ -4,7 +4,7 @@ ghost use mathlib.Core.Bool.{true, false};
 ghost use Prim.Native.Nat.{_<_, _≤_};
 ghost use lib.ListN.{length, getD};
 ghost use lib.IntN.{pos};
-ghost use Rattle.bars.specs.Stores.{rawStore, SizedRaw};
+ghost use Rattle.stores.specs.Stores.{rawStore, SizedRaw};
 ghost use Rattle.machine.specs.Feed.{rawWith};
 ghost use Rattle.strokes.specs.StoreSteps.{HasRaw, keptRaw, rawOnly};
 ghost use Rattle.writing.specs.WriteSteps.{CanKeep, dropEarlier};

@@ -2,7 +2,7 @@
 ghost use mathlib.Core.Path.{_≡_};
 ghost use Prim.Native.Nat.{_+_};
 ghost use Rattle.machine.specs.Feed.{shedCount};
-ghost use Rattle.bars.specs.Stores.{mergedStore};
+ghost use Rattle.stores.specs.Stores.{mergedStore};
 ghost use Rattle.strokes.specs.Stored.{fractalStore};
 ghost use Rattle.writing.specs.WriteSteps.{CanMake, MadeWhere};
 ghost use Rattle.writing.specs.Written.{CanMove, HasLeft, HasMoved};

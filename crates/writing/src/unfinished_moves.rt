@@ -3,7 +3,7 @@
 ghost use Prim.Native.Nat.{_≤_};
 ghost use lib.ListN.{drop};
 ghost use lib.Dec.{T};
-ghost use Rattle.bars.specs.Stores.{rawStore, mergedStore, SizedMerged};
+ghost use Rattle.stores.specs.Stores.{rawStore, mergedStore, SizedMerged};
 ghost use Rattle.machine.specs.Break.{joined};
 ghost use Rattle.strokes.specs.StoreSteps.{HasUnfinished, keptUnfinished, withoutLast, storedStroke};
 ghost use Rattle.strokes.specs.StrokeStore.{lastPlace, lastBars};

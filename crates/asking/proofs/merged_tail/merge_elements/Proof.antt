@@ -7,7 +7,7 @@ use mir.Syntax.{w64}
 use mir.ValLaws.{toZ-ofZ}
 use Rattle.bars.specs.Merging.{atTimes}
 use Rattle.bars.specs.MergedBars.{mergeBarsAll}
-use Rattle.bars.specs.Stores.{rawStore, rawBars}
+use Rattle.stores.specs.Stores.{rawStore, rawBars}
 use Rattle.check_bi.specs.View.{view}
 use Rattle.asking.proofs.MergedTails.{TailGoing}
 use Rattle.asking.proofs.TailsAgain.{run-first, run-can, run-turn, run-end}

@@ -2,7 +2,7 @@ use borrow.Author.Needs.{needs}
 use native.Mathlib.Omega.{arith}
 use Prim.Native.Nat.{_<_}
 use lib.ListN.{length}
-use Rattle.bars.specs.Stores.{rawStore}
+use Rattle.stores.specs.Stores.{rawStore}
 use Rattle.asking.proofs.MergedTails.{started-none, started-one}
 use Rattle.asking.proofs.merged_tail.start_tail.Statement.{statement}
 use Rattle.asking.proofs.merged_tail.start_tail.Tie as tie

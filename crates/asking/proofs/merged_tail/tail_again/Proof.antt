@@ -4,7 +4,7 @@ use Prim.Native.Nat.{_+_, _-_}
 use native.Mathlib.Omega.{arith}
 use mathlib.Core.Path.{_≡_, refl}
 use lib.ListN.{length, take}
-use Rattle.bars.specs.Stores.{rawStore, mergedStore, rawBars}
+use Rattle.stores.specs.Stores.{rawStore, mergedStore, rawBars}
 use Rattle.strokes.proofs.StoredUnfinished.{room-of}
 use Rattle.asking.proofs.TailsAgain.{again-count, again-start, again-run, again-last, again-done}
 use Rattle.asking.proofs.merged_tail.tail_again.Statement.{statement}

@@ -1,7 +1,7 @@
 use borrow.Author.Needs.{needs}
 use native.Mathlib.Omega.{arith}
 use lib.ListN.{length}
-use Rattle.bars.specs.Stores.{rawStore}
+use Rattle.stores.specs.Stores.{rawStore}
 use Rattle.asking.proofs.MergedTails.{can-start, can-put, later-put}
 use Rattle.asking.proofs.merged_tail.tail_later.Statement.{statement}
 use Rattle.asking.proofs.merged_tail.tail_later.Tie as tie

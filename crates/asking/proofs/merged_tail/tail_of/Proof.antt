@@ -1,6 +1,6 @@
 use borrow.Author.Needs.{needs}
 use lib.ListN.{length, take}
-use Rattle.bars.specs.Stores.{rawStore, mergedStore, rawBars}
+use Rattle.stores.specs.Stores.{rawStore, mergedStore, rawBars}
 use Rattle.asking.proofs.TailsAgain.{later-start, later-done, again-asked, again-given}
 use Rattle.asking.proofs.merged_tail.tail_of.Statement.{statement}
 use Rattle.asking.proofs.merged_tail.tail_of.Tie as tie

@@ -6,7 +6,7 @@ use lib.IntN.{ℤ}
 use mir.Syntax.{w64}
 use mir.Val.{toZ, ofZ}
 use mir.ValLaws.{toZ-ofZ}
-use Rattle.bars.specs.Stores.{placeOf}
+use Rattle.stores.specs.Stores.{placeOf}
 use Rattle.check_bi.specs.View.{view}
 use Rattle.check_bi.proofs.ScanViews.{length-view}
 use Rattle.asking.proofs.PlanLaws.{skip-turn, skip-here, skip-end}

@@ -3,7 +3,7 @@ use borrow.Author.Needs.{length-unmapped}
 use native.Mathlib.Omega.{arith}
 use mathlib.Core.Path.{_≡_}
 use lib.ListN.{length}
-use Rattle.bars.specs.Stores.{rawStore, mergedStore}
+use Rattle.stores.specs.Stores.{rawStore, mergedStore}
 use Rattle.strokes.specs.Stored.{fractalStore}
 use Rattle.sound.specs.SoundStand.{storesOf}
 use Rattle.sound.proofs.SoundFacts.{facts}

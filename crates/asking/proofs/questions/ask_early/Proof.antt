@@ -3,7 +3,7 @@ use mir.Syntax.{w64}
 use mir.ValLaws.{toZ-ofZ}
 use mathlib.Core.Path.{refl}
 use lib.ListN.{length}
-use Rattle.bars.specs.Stores.{rawStore, rawBars}
+use Rattle.stores.specs.Stores.{rawStore, rawBars}
 use Rattle.asking.proofs.AskLaws.{early-none, early-newest}
 use Rattle.asking.proofs.questions.ask_early.Statement.{statement}
 use Rattle.asking.proofs.questions.ask_early.Tie as tie

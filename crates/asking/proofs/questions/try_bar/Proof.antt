@@ -1,6 +1,6 @@
 use borrow.Author.Needs.{needs}
 use native.Mathlib.Omega.{arith}
-use Rattle.bars.specs.Stores.{rawStore, mergedStore}
+use Rattle.stores.specs.Stores.{rawStore, mergedStore}
 use Rattle.asking.proofs.AskLaws.{try-tail, try-columns, try-done}
 use Rattle.asking.proofs.questions.try_bar.Statement.{statement}
 use Rattle.asking.proofs.questions.try_bar.Tie as tie

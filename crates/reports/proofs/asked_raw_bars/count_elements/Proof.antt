@@ -3,7 +3,7 @@ use mathlib.Core.Path.{_≡_}
 use native.Mathlib.Omega.{arith}
 use lib.ListN.{length, take, drop}
 use Rattle.bars.specs.Lists.{join}
-use Rattle.bars.specs.Stores.{zipWith}
+use Rattle.stores.specs.Stores.{zipWith}
 use Rattle.reports.proofs.InnerRawLaws.{count-turn, count-end}
 use borrow.Author.Needs.{needs}
 use Rattle.reports.proofs.asked_raw_bars.count_elements.Statement.{statement}

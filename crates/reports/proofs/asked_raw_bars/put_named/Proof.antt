@@ -1,5 +1,5 @@
 use Rattle.reports.proofs.InnerRawLaws.{find-room, put-is}
-use Rattle.bars.specs.Stores.{rawStore}
+use Rattle.stores.specs.Stores.{rawStore}
 use mir.ValLaws.{toZ-ofZ}
 use mir.Syntax.{w64}
 use lib.IntN.{pos}

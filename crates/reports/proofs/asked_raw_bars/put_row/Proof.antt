@@ -4,7 +4,7 @@ use mathlib.Core.Path.{_≡_, refl, _∙_}
 use mathlib.Core.List.{foldl}
 use native.Mathlib.Omega.{arith}
 use lib.ListN.{length, take, drop, length-take}
-use Rattle.bars.specs.Stores.{rawStore}
+use Rattle.stores.specs.Stores.{rawStore}
 use Rattle.reports.specs.InnerRawBars.{putNamed, filling}
 use Rattle.reports.proofs.MeasureLaws.{element-named, element-turn, element-end}
 use Rattle.reports.proofs.InnerRawLaws.{set-lengths}

@@ -2,7 +2,7 @@ use Rattle.reports.proofs.InnerRawLaws.{row-lengths, row-next, rows-roo
 use Rattle.reports.proofs.MeasureLaws.{row-named, row-turn, row-end}
 use Rattle.reports.specs.InnerRawBars.{putNamed, filling}
 use Rattle.reports.specs.ElementPrices.{elementsIn}
-use Rattle.bars.specs.Stores.{rawStore, zipWith}
+use Rattle.stores.specs.Stores.{rawStore, zipWith}
 use Rattle.bars.specs.Lists.{join}
 use lib.ListN.{length, take, drop, getD}
 use native.Mathlib.Omega.{arith}

@@ -2,7 +2,7 @@ use Rattle.reports.proofs.FxPasses.{first-asked, few-stamps, few-prices
 use Rattle.reports.specs.FxAnswers.{allRows}
 use Rattle.reports.specs.declared.fx_list.Listed.{Listed}
 use Rattle.strokes.specs.Stored.{fractalStore}
-use Rattle.bars.specs.Stores.{rawStore}
+use Rattle.stores.specs.Stores.{rawStore}
 use lib.IntN.{pos}
 use mathlib.Core.Path.{refl}
 use native.Mathlib.Omega.{arith}

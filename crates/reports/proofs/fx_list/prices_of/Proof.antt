@@ -1,6 +1,6 @@
 use mathlib.Core.Path.{refl}
 use Rattle.strokes.specs.StrokeStore.{pricesOf}
-use Rattle.bars.specs.Stores.{rowOf}
+use Rattle.bars.specs.Bars.{rowOf}
 use borrow.Author.Needs.{needs}
 use Rattle.reports.proofs.fx_list.prices_of.Statement.{statement}
 use Rattle.reports.proofs.fx_list.prices_of.Tie as tie

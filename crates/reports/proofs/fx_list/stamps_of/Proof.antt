@@ -1,16 +1,11 @@
-use mathlib.Core.Path.{_≡_, _∙_}
 use mathlib.Core.List.{[], _∷_}
-use lib.IntN.{ℤ}
-use mir.Syntax.{w32, w64}
-use mir.Val.{SFits, toZ, ofZ}
+use mir.Syntax.{w64}
 use mir.ValLaws.{toZ-ofZ}
 use Rattle.strokes.specs.StrokeStore.{stampsOf}
+use Rattle.strokes.proofs.StoredFractals.{stamp}
 use borrow.Author.Needs.{needs}
 use Rattle.reports.proofs.fx_list.stamps_of.Statement.{statement}
 use Rattle.reports.proofs.fx_list.stamps_of.Tie as tie
-
-stamp : (x r : ℤ) → SFits w32 x → SFits w64 r → r ≡ toZ w32 (ofZ w32 x) → toZ w64 (ofZ w64 r) ≡ x
-stamp x r h k e = toZ-ofZ w64 r k ∙ e ∙ toZ-ofZ w32 x h
 
 widened-requires : tie.Need-widened-requires
 widened-requires c κs = search needs

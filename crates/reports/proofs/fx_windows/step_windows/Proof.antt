@@ -2,7 +2,7 @@ use Prim.Native.Nat.{_≤_, _<_, _-_, _+_}
 use native.Mathlib.Omega.{arith}
 use mathlib.Core.Path.{_≡_, refl, sym, _∙_, ap, subst}
 use lib.ListN.{length, drop}
-use Rattle.bars.specs.Stores.{rawStore}
+use Rattle.stores.specs.Stores.{rawStore}
 use Rattle.machine.specs.Fractals.{fxsAfter}
 use Rattle.machine.specs.declared.Mark.the-variants.{D}
 use Rattle.strokes.specs.StrokeStore.{fractalsOf}

@@ -9,7 +9,7 @@ use Rattle.arith.specs.declared.sums.FitSums.{FitSums}
 use Rattle.arith.specs.declared.sums.SnrSums.{SnrSums}
 use Rattle.arith.specs.declared.sums.SlopeSums.{SlopeSums}
 use Rattle.bars.specs.Lists.{join}
-use Rattle.bars.specs.Stores.{zipWith}
+use Rattle.stores.specs.Stores.{zipWith}
 use Rattle.reports.specs.declared.measures.InnerSums.{InnerSums}
 use Rattle.reports.specs.Measures.{powerSnr}
 use Rattle.reports.specs.ElementPrices.{meanAt, fitAt, snrAt, slopeAt}

@@ -3,7 +3,7 @@ use mathlib.Core.Path.{_≡_, refl}
 use mathlib.Core.List.{foldl}
 use lib.ListN.{length, take, drop}
 use Rattle.bars.specs.Lists.{join}
-use Rattle.bars.specs.Stores.{zipWith}
+use Rattle.stores.specs.Stores.{zipWith}
 use Rattle.reports.specs.ElementPrices.{slopeAt}
 use Rattle.reports.proofs.MeasureLaws.{row-named, row-turn, row-end}
 use borrow.Author.Needs.{needs}

@@ -1,7 +1,7 @@
 use Rattle.reports.specs.Reports.{nth}
 use Rattle.reports.specs.FractalAnswers.{answersOf}
 use Rattle.strokes.specs.StrokeStore.{fractalsOf}
-use Rattle.bars.specs.Stores.{rawStore}
+use Rattle.stores.specs.Stores.{rawStore}
 use mathlib.Core.Option.{Option·map}
 use Prim.Native.Nat.{_≤_, _-_}
 use mathlib.Core.Path.{_≡_, refl, sym, _∙_}

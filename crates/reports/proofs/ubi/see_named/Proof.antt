@@ -6,9 +6,9 @@ use lib.Signed.{ltZ}
 use mir.Syntax.{w64}
 use mir.Val.{toZ, ofZ}
 use mir.ValLaws.{toZ-ofZ}
-use Rattle.bars.specs.Stores.{rawStore, rawBars, placeOf}
-use Rattle.strokes.proofs.StoredAgain.{none-past, none-there, one-there}
-use Rattle.reports.proofs.UbiLaws.{keeping, rises, named-none, named-one}
+use Rattle.stores.specs.Stores.{rawStore, rawBars, placeOf}
+use Rattle.strokes.proofs.StoredAgain.{none-past, none-there, one-there, keeping}
+use Rattle.reports.proofs.UbiLaws.{rises, named-none, named-one}
 use borrow.Author.Needs.{needs}
 use Rattle.reports.proofs.ubi.see_named.Statement.{statement}
 use Rattle.reports.proofs.ubi.see_named.Tie as tie

@@ -5,7 +5,7 @@ use lib.ListN.{length, take, drop, getD}
 use lib.IntN.{ℤ, pos}
 use mir.Syntax.{w64}
 use mir.ValLaws.{toZ-ofZ}
-use Rattle.bars.specs.Stores.{rawStore, rawBars}
+use Rattle.stores.specs.Stores.{rawStore, rawBars}
 use Rattle.reports.specs.UbiAnswers.{seeAt}
 use Rattle.reports.proofs.MeasureLaws.{element-turn, element-end}
 use borrow.Author.Needs.{needs}

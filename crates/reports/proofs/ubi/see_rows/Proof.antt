@@ -4,7 +4,7 @@ use mathlib.Core.Path.{_≡_, refl}
 use mathlib.Core.List.{foldl}
 use lib.ListN.{length, take, drop}
 use Rattle.bars.specs.Lists.{join}
-use Rattle.bars.specs.Stores.{rawStore, rawBars, zipWith}
+use Rattle.stores.specs.Stores.{rawStore, rawBars, zipWith}
 use Rattle.reports.specs.UbiAnswers.{seeAt}
 use Rattle.reports.proofs.MeasureLaws.{row-turn, row-end}
 use borrow.Author.Needs.{needs}

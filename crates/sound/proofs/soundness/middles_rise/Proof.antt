@@ -3,7 +3,7 @@ use mathlib.Core.Path.{_≡_, refl}
 use mathlib.Core.Bool.{_&&_}
 use mathlib.Core.List.{map}
 use Prim.Native.Nat.{_-_, _≤_}
-use Rattle.bars.specs.Stores.{rising}
+use Rattle.stores.specs.Stores.{rising}
 use Rattle.machine.specs.Soundness.{rises}
 use Rattle.sound.specs.SoundStand.{middleTimes}
 use Rattle.sound.proofs.SoundScans.{rises-is, middle-few, middle-turn, middle-end}

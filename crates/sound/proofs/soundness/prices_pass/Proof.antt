@@ -19,26 +19,20 @@ is-price-requires-2 c κs = search needs
 both-requires : tie.Need-both-requires
 both-requires c κs = search needs
 
-array-read-is-price-3 : tie.Need-array-read-is-price-3
-array-read-is-price-3 c = search needs
+array-read-is-range : tie.Need-array-read-is-range
+array-read-is-range c = search needs
 
-is-price-requires-3 : tie.Need-is-price-requires-3
-is-price-requires-3 c κs = search needs
+array-read-is-range-2 : tie.Need-array-read-is-range-2
+array-read-is-range-2 c = search needs
 
-array-read-is-price-4 : tie.Need-array-read-is-price-4
-array-read-is-price-4 c = search needs
-
-is-price-requires-4 : tie.Need-is-price-requires-4
-is-price-requires-4 c κs = search needs
+is-range-requires : tie.Need-is-range-requires
+is-range-requires c κs = search needs
 
 both-requires-2 : tie.Need-both-requires-2
 both-requires-2 c κs = search needs
 
-both-requires-3 : tie.Need-both-requires-3
-both-requires-3 c κs = search needs
-
 returns : tie.Need-returns
-returns c = c .both3 .ensures ∙ (λ j. (c .before .before .before .before .both .ensures ∙ (λ i. c .before .before .before .before .before .before .is-price .ensures i && c .before .before .before .before .before .is-price2 .ensures i)) j && (c .before .both2 .ensures ∙ (λ i. c .before .before .before .is-price3 .ensures i && c .before .before .is-price4 .ensures i)) j)
+returns c = c .both2 .ensures ∙ (λ j. (c .before .before .both .ensures ∙ (λ i. c .before .before .before .before .is-price .ensures i && c .before .before .before .is-price2 .ensures i)) j && c .before .is-range .ensures j)
 
 pub prices-pass-spec : {M : Type 1} → statement M
 prices-pass-spec =
@@ -49,10 +43,8 @@ prices-pass-spec =
     array-read-is-price-2
     is-price-requires-2
     both-requires
-    array-read-is-price-3
-    is-price-requires-3
-    array-read-is-price-4
-    is-price-requires-4
+    array-read-is-range
+    array-read-is-range-2
+    is-range-requires
     both-requires-2
-    both-requires-3
     returns)

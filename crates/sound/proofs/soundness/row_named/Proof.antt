@@ -1,80 +1,49 @@
-use Prim.Native.Nat.{_≤_, _<_, _-_, min}
-use native.Mathlib.Omega.{arith}
-use mathlib.Core.Path.{_≡_, refl, ap}
-use mathlib.Core.Bool.{_&&_}
-use lib.ListN.{length, take, drop, getD}
-use lib.IntN.{pos}
-use Rattle.bars.specs.Lists.{every}
-use Rattle.bars.proofs.Searching.{place-le}
-use Rattle.sound.specs.SoundStand.{isTime, placeAfter}
-use Rattle.sound.proofs.SoundNames.{row-turn, after-turn, row-end, after-end}
+use Rattle.sound.proofs.SoundNames.{row-each, row-follows}
 use borrow.Author.Needs.{needs}
 use Rattle.sound.proofs.soundness.row_named.Statement.{statement}
 use Rattle.sound.proofs.soundness.row_named.Tie as tie
 
-abbrev Inv-loop : tie.InvT-loop
-Inv-loop ts row count from n ok₀ next₀ j₀ ok next j =
-    (j ≤ min count (length row))
-    × ((ok && every (isTime ts) (drop j (take count row))) ≡ every (isTime ts) (take count row))
-    × (placeAfter ts next (drop j (take count row)) ≡ placeAfter ts from (take count row))
-
-abbrev μ-loop : tie.MeasureT-loop
-μ-loop ts row count from n ok₀ next₀ j₀ ok next j = min count (length row) - j
-
-at-most-requires : tie.Need-at-most-requires Inv-loop μ-loop
+at-most-requires : tie.Need-at-most-requires
 at-most-requires c κs = search needs
 
-loop-holds : tie.Need-loop-holds Inv-loop μ-loop
-loop-holds c = (search needs, refl, refl)
+each-named-requires : tie.Need-each-named-requires
+each-named-requires c κs = search needs
 
-seek-requires : tie.Need-seek-requires Inv-loop μ-loop
-seek-requires c κs = search needs
+returns : tie.Need-returns
+returns c = let a = c .before .before .before .args in row-each (a .ts .now) (a .row .now) (a .count) _ _ (c .before .before .at-most .ensures) (c .each-named .ensures)
 
-is-at-requires : tie.Need-is-at-requires Inv-loop μ-loop
-is-at-requires c κs = search needs
+each-named-requires-2 : tie.Need-each-named-requires-2
+each-named-requires-2 c κs = search needs
 
-both-requires : tie.Need-both-requires Inv-loop μ-loop
-both-requires c κs = search needs
+returns-2 : tie.Need-returns-2
+returns-2 c = let a = c .before .before .before .before .args in row-each (a .ts .now) (a .row .now) (a .count) _ _ (c .before .before .before .at-most .ensures) (c .each-named2 .ensures)
 
-add-next : tie.Need-add-next Inv-loop μ-loop
-add-next c =
-    let a = c .before .before .before .before .before .before .args in
-    omega (arith, c .before .before .seek .ensures, place-le (getD (a .row .now) (c .before .before .before .before .loop .j) (pos 0)) (a .ts .now))
+follow-requires : tie.Need-follow-requires
+follow-requires c κs = search needs
 
-add-j : tie.Need-add-j Inv-loop μ-loop
-add-j c = search needs
+add-t10 : tie.Need-add-t10
+add-t10 c = search needs
 
-loop-less : tie.Need-loop-less Inv-loop μ-loop
-loop-less c = search needs
+returns-3 : tie.Need-returns-3
+returns-3 c = let a = c .before .before .before .before .before .args in row-follows (a .ts .now) (a .row .now) (a .count) _ _ (c .before .before .before .before .at-most .ensures) (c .before .follow .ensures) (c .if3 .taken)
 
-loop-again : tie.Need-loop-again Inv-loop μ-loop
-loop-again c =
-    let b = c .before .before .before .before .before .before in
-    let a = b .args in
-    let l = c .before .before .before .before .loop in
-    let s = c .before .before .seek in
-    let h : l .j < min (a .count) (length (a .row .now)) = search needs in
-    (search needs, row-turn (a .ts .now) (a .row .now) (a .count) (l .j) (b .pre .1) h (s .result) (l .ok) _ _ _ (s .ensures) (c .before .is-at .ensures) (c .both .ensures) (l .inv .1), after-turn (a .ts .now) (a .row .now) (a .count) (l .j) (b .pre .1) h (s .result) (l .next) _ (s .ensures) (l .inv .2))
+each-named-requires-3 : tie.Need-each-named-requires-3
+each-named-requires-3 c κs = search needs
 
-returns : tie.Need-returns Inv-loop μ-loop
-returns c =
-    let a = c .before .before .before .args in
-    let l = c .before .loop in
-    (row-end (a .ts .now) (a .row .now) (a .count) (l .j) _ _ (search needs) (l .inv .1), after-end (a .ts .now) (a .row .now) (a .count) (l .j) _ _ (search needs) (l .inv .2))
+returns-4 : tie.Need-returns-4
+returns-4 c = let a = c .before .before .before .before .before .before .args in row-each (a .ts .now) (a .row .now) (a .count) _ _ (c .before .before .before .before .before .at-most .ensures) (c .each-named3 .ensures)
 
 pub row-named-spec : {M : Type 1} → statement M
 row-named-spec =
     tie.close
     (tie.spec
-    Inv-loop
-    μ-loop
     at-most-requires
-    loop-holds
-    seek-requires
-    is-at-requires
-    both-requires
-    add-next
-    add-j
-    loop-less
-    loop-again
-    returns)
+    each-named-requires
+    returns
+    each-named-requires-2
+    returns-2
+    follow-requires
+    add-t10
+    returns-3
+    each-named-requires-3
+    returns-4)

@@ -9,10 +9,10 @@ use Rattle.sound.proofs.soundness.rows_named.Statement.{statement}
 use Rattle.sound.proofs.soundness.rows_named.Tie as tie
 
 abbrev Inv-loop : tie.InvT-loop
-Inv-loop ts cs es ok₀ next₀ i₀ ok next i = (i ≤ length cs) × ((ok && namedRows ts (drop i cs) (drop i es)) ≡ namedRows ts cs es)
+Inv-loop ts cs es from ok₀ first₀ next₀ i₀ ok first next i = (i ≤ length cs) × ((ok && namedRows ts (drop i cs) (drop i es)) ≡ namedRows ts cs es)
 
 abbrev μ-loop : tie.MeasureT-loop
-μ-loop ts cs es ok₀ next₀ i₀ ok next i = length cs - i
+μ-loop ts cs es from ok₀ first₀ next₀ i₀ ok first next i = length cs - i
 
 loop-holds : tie.Need-loop-holds Inv-loop μ-loop
 loop-holds c = (search needs, refl)
@@ -45,7 +45,7 @@ loop-again : tie.Need-loop-again Inv-loop μ-loop
 loop-again c =
     let a = c .before .before .before .before .before .before .before .before .args in
     let l = c .before .before .before .before .before .before .loop in
-    (search needs, rows-turn (a .ts .now) (a .cs .now) (a .es .now) (l .i) (l .ok) _ _ _ (search needs) (search needs) (c .before .row-named .ensures .0) (c .both .ensures) (l .inv .1))
+    (search needs, rows-turn (a .ts .now) (a .cs .now) (a .es .now) (l .i) (l .ok) _ _ _ (search needs) (search needs) (c .before .row-named .ensures) (c .both .ensures) (l .inv .1))
 
 returns : tie.Need-returns Inv-loop μ-loop
 returns c =

@@ -1,5 +1,5 @@
 use Rattle.sound.proofs.SoundNames.{at-place}
-use Rattle.bars.specs.Stores.{placeOf}
+use Rattle.stores.specs.Stores.{placeOf}
 use mir.ValLaws.{toZ-ofZ}
 use mir.Syntax.{w64}
 use lib.IntN.{ℤ, pos}

@@ -9,37 +9,52 @@ use borrow.Author.Needs.{needs}
 use Rattle.sound.proofs.soundness.stroke_pass.Statement.{statement}
 use Rattle.sound.proofs.soundness.stroke_pass.Tie as tie
 
+unsound-requires : tie.Need-unsound-requires
+unsound-requires c κs = search needs
+
 returns : tie.Need-returns
 unfolding strokeColumns
-returns c = rw (lt-leb 4 (length (c .before .before .args .ts .now)) (c .if1 .taken))
+returns c = rw (lt-leb 4 (length (c .before .before .before .args .ts .now)) (c .before .if1 .taken)) (c .unsound .ensures)
 
 times-pass-requires : tie.Need-times-pass-requires
 times-pass-requires c κs = search needs
 
+unsound-requires-2 : tie.Need-unsound-requires-2
+unsound-requires-2 c κs = search needs
+
 returns-2 : tie.Need-returns-2
 unfolding strokeColumns
-returns-2 c = rw (le-leb 4 (length (c .before .before .before .before .args .ts .now)) (c .before .before .if1 .left), sym (c .before .times-pass .ensures) ∙ not-true _ (c .if2 .taken))
+returns-2 c = rw (le-leb 4 (length (c .before .before .before .before .before .args .ts .now)) (c .before .before .before .if1 .left), sym (c .before .before .times-pass .ensures) ∙ not-true _ (c .before .if2 .taken)) (c .unsound2 .ensures)
 
 merged-rows-pass-requires : tie.Need-merged-rows-pass-requires
 merged-rows-pass-requires c κs = search needs
 
+unsound-requires-3 : tie.Need-unsound-requires-3
+unsound-requires-3 c κs = search needs
+
 returns-3 : tie.Need-returns-3
 unfolding strokeColumns
-returns-3 c = rw (le-leb 4 (length (c .before .before .before .before .before .before .args .ts .now)) (c .before .before .before .before .if1 .left), sym (c .before .before .before .times-pass .ensures) ∙ not-false _ (c .before .before .if2 .left), sym (c .before .merged-rows-pass .ensures) ∙ not-true _ (c .if3 .taken))
+returns-3 c = rw (le-leb 4 (length (c .before .before .before .before .before .before .before .args .ts .now)) (c .before .before .before .before .before .if1 .left), sym (c .before .before .before .before .times-pass .ensures) ∙ not-false _ (c .before .before .before .if2 .left), sym (c .before .before .merged-rows-pass .ensures) ∙ not-true _ (c .before .if3 .taken)) (c .unsound3 .ensures)
 
 counts-pass-requires : tie.Need-counts-pass-requires
 counts-pass-requires c κs = search needs
 
+unsound-requires-4 : tie.Need-unsound-requires-4
+unsound-requires-4 c κs = search needs
+
 returns-4 : tie.Need-returns-4
 unfolding strokeColumns
-returns-4 c = rw (le-leb 4 (length (c .before .before .before .before .before .before .before .before .args .ts .now)) (c .before .before .before .before .before .before .if1 .left), sym (c .before .before .before .before .before .times-pass .ensures) ∙ not-false _ (c .before .before .before .before .if2 .left), sym (c .before .before .before .merged-rows-pass .ensures) ∙ not-false _ (c .before .before .if3 .left), sym (c .before .counts-pass .ensures) ∙ not-true _ (c .if4 .taken))
+returns-4 c = rw (le-leb 4 (length (c .before .before .before .before .before .before .before .before .before .args .ts .now)) (c .before .before .before .before .before .before .before .if1 .left), sym (c .before .before .before .before .before .before .times-pass .ensures) ∙ not-false _ (c .before .before .before .before .before .if2 .left), sym (c .before .before .before .before .merged-rows-pass .ensures) ∙ not-false _ (c .before .before .before .if3 .left), sym (c .before .before .counts-pass .ensures) ∙ not-true _ (c .before .if4 .taken)) (c .unsound4 .ensures)
 
 fractals-pass-requires : tie.Need-fractals-pass-requires
 fractals-pass-requires c κs = search needs
 
+unsound-requires-5 : tie.Need-unsound-requires-5
+unsound-requires-5 c κs = search needs
+
 returns-5 : tie.Need-returns-5
 unfolding strokeColumns
-returns-5 c = rw (le-leb 4 (length (c .before .before .before .before .before .before .before .before .before .before .args .ts .now)) (c .before .before .before .before .before .before .before .before .if1 .left), sym (c .before .before .before .before .before .before .before .times-pass .ensures) ∙ not-false _ (c .before .before .before .before .before .before .if2 .left), sym (c .before .before .before .before .before .merged-rows-pass .ensures) ∙ not-false _ (c .before .before .before .before .if3 .left), sym (c .before .before .before .counts-pass .ensures) ∙ not-false _ (c .before .before .if4 .left), sym (c .before .fractals-pass .ensures) ∙ not-true _ (c .if5 .taken))
+returns-5 c = rw (le-leb 4 (length (c .before .before .before .before .before .before .before .before .before .before .before .args .ts .now)) (c .before .before .before .before .before .before .before .before .before .if1 .left), sym (c .before .before .before .before .before .before .before .before .times-pass .ensures) ∙ not-false _ (c .before .before .before .before .before .before .before .if2 .left), sym (c .before .before .before .before .before .before .merged-rows-pass .ensures) ∙ not-false _ (c .before .before .before .before .before .if3 .left), sym (c .before .before .before .before .counts-pass .ensures) ∙ not-false _ (c .before .before .before .if4 .left), sym (c .before .before .fractals-pass .ensures) ∙ not-true _ (c .before .if5 .taken)) (c .unsound5 .ensures)
 
 sub-e : tie.Need-sub-e
 sub-e c = search needs
@@ -73,14 +88,19 @@ pub stroke-pass-spec : {M : Type 1} → statement M
 stroke-pass-spec =
     tie.close
     (tie.spec
+    unsound-requires
     returns
     times-pass-requires
+    unsound-requires-2
     returns-2
     merged-rows-pass-requires
+    unsound-requires-3
     returns-3
     counts-pass-requires
+    unsound-requires-4
     returns-4
     fractals-pass-requires
+    unsound-requires-5
     returns-5
     sub-e
     sub-rows-named

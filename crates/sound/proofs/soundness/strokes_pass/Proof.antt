@@ -11,7 +11,7 @@ use Rattle.sound.proofs.soundness.strokes_pass.Statement.{statement}
 use Rattle.sound.proofs.soundness.strokes_pass.Tie as tie
 
 abbrev Inv-loop : tie.InvT-loop
-Inv-loop rt n st sp sc se fs fp bars fractals a₀ k₀ a k =
+Inv-loop rt n st sp sc se fs fp bars fractals a₀ from₀ k₀ a from k =
     (k ≤ n)
     × (a + total (drop k (take n bars)) ≤ length st)
     × (length bars ≡ 65)
@@ -20,7 +20,7 @@ Inv-loop rt n st sp sc se fs fp bars fractals a₀ k₀ a k =
     ≡ strokesColumns rt (take n bars) (take n fractals) st sp sc se fs fp)
 
 abbrev μ-loop : tie.MeasureT-loop
-μ-loop rt n st sp sc se fs fp bars fractals a₀ k₀ a k = n - k
+μ-loop rt n st sp sc se fs fp bars fractals a₀ from₀ k₀ a from k = n - k
 
 loop-holds : tie.Need-loop-holds Inv-loop μ-loop
 loop-holds c = (search needs, search needs, search needs, search needs, refl)
@@ -122,16 +122,16 @@ stroke-pass-requires : tie.Need-stroke-pass-requires Inv-loop μ-loop
 stroke-pass-requires c κs = let b = c .before .before .before .before .before .before .before .before .before .before in let l = c .before .before .before .before .before .before .before .before .loop in ((part-lengths (b .args .sc .now) (b .args .st .now) (l .a + getD (b .args .t3) (l .k) 0 - l .a) (l .a) (length (b .args .st .now)) (search needs) refl, part-lengths (b .args .se .now) (b .args .st .now) (l .a + getD (b .args .t3) (l .k) 0 - l .a) (l .a) (length (b .args .st .now)) (search needs) refl, search needs), b .pre .1 .1)
 
 returns-2 : tie.Need-returns-2 Inv-loop μ-loop
-returns-2 c = let b = c .before .before .before .before .before .before .before .before .before .before .before .before in let l = c .before .before .before .before .before .before .before .before .before .before .loop in (strokes-stop (b .args .rt .now) (b .args .t3) (b .args .t4) (b .args .n) (l .k) (l .a) (b .args .st .now) (b .args .sp .now) (b .args .sc .now) (b .args .se .now) (b .args .fs .now) (b .args .fp .now) (l .inv .2) (l .inv .3) (search needs) (search needs) _ _ (search needs) (c .before .stroke-pass .ensures) (l .inv .4) (not-true _ (c .if2 .taken)), l .inv .2, l .inv .3)
+returns-2 c = let b = c .before .before .before .before .before .before .before .before .before .before .before .before .before in let l = c .before .before .before .before .before .before .before .before .before .before .before .loop in (strokes-stop (b .args .rt .now) (b .args .t3) (b .args .t4) (b .args .n) (l .k) (l .a) (b .args .st .now) (b .args .sp .now) (b .args .sc .now) (b .args .se .now) (b .args .fs .now) (b .args .fp .now) (l .inv .2) (l .inv .3) (search needs) (search needs) _ _ (search needs) (c .before .before .stroke-pass .ensures) (l .inv .4) (not-true _ (c .if2 .taken)), l .inv .2, l .inv .3)
 
 add-k : tie.Need-add-k Inv-loop μ-loop
-add-k c = let b = c .before .before .before .before .before .before .before .before .before .before .before .before in let l = c .before .before .before .before .before .before .before .before .before .before .loop in let t : l .k < b .args .n = c .before .before .before .before .before .before .before .before .before .loop-test .taken in let h : b .args .n ≤ 64 = b .pre .0 .0 in omega arith
+add-k c = let b = c .before .before .before .before .before .before .before .before .before .before .before .before .before in let l = c .before .before .before .before .before .before .before .before .before .before .before .loop in let t : l .k < b .args .n = c .before .before .before .before .before .before .before .before .before .before .loop-test .taken in let h : b .args .n ≤ 64 = b .pre .0 .0 in omega arith
 
 loop-less : tie.Need-loop-less Inv-loop μ-loop
-loop-less c = let b = c .before .before .before .before .before .before .before .before .before .before .before .before in let l = c .before .before .before .before .before .before .before .before .before .before .loop in let t : l .k < b .args .n = c .before .before .before .before .before .before .before .before .before .loop-test .taken in let h : b .args .n ≤ 64 = b .pre .0 .0 in omega arith
+loop-less c = let b = c .before .before .before .before .before .before .before .before .before .before .before .before .before in let l = c .before .before .before .before .before .before .before .before .before .before .before .loop in let t : l .k < b .args .n = c .before .before .before .before .before .before .before .before .before .before .loop-test .taken in let h : b .args .n ≤ 64 = b .pre .0 .0 in omega arith
 
 loop-again : tie.Need-loop-again Inv-loop μ-loop
-loop-again c = let b = c .before .before .before .before .before .before .before .before .before .before .before .before in let l = c .before .before .before .before .before .before .before .before .before .before .loop in let t : l .k < b .args .n = c .before .before .before .before .before .before .before .before .before .loop-test .taken in let h : b .args .n ≤ 64 = b .pre .0 .0 in (omega arith, room-next (b .args .t3) (b .args .n) (l .k) (l .a) (length (b .args .st .now)) (l .inv .2) (search needs) (search needs) (l .inv .1), l .inv .2, l .inv .3, strokes-turn (b .args .rt .now) (b .args .t3) (b .args .t4) (b .args .n) (l .k) (l .a) (b .args .st .now) (b .args .sp .now) (b .args .sc .now) (b .args .se .now) (b .args .fs .now) (b .args .fp .now) (l .inv .2) (l .inv .3) (search needs) (search needs) _ _ (search needs) (c .before .stroke-pass .ensures) (l .inv .4) (not-false _ (c .if2 .left)))
+loop-again c = let b = c .before .before .before .before .before .before .before .before .before .before .before .before .before in let l = c .before .before .before .before .before .before .before .before .before .before .before .loop in let t : l .k < b .args .n = c .before .before .before .before .before .before .before .before .before .before .loop-test .taken in let h : b .args .n ≤ 64 = b .pre .0 .0 in (omega arith, room-next (b .args .t3) (b .args .n) (l .k) (l .a) (length (b .args .st .now)) (l .inv .2) (search needs) (search needs) (l .inv .1), l .inv .2, l .inv .3, strokes-turn (b .args .rt .now) (b .args .t3) (b .args .t4) (b .args .n) (l .k) (l .a) (b .args .st .now) (b .args .sp .now) (b .args .sc .now) (b .args .se .now) (b .args .fs .now) (b .args .fp .now) (l .inv .2) (l .inv .3) (search needs) (search needs) _ _ (search needs) (c .before .before .stroke-pass .ensures) (l .inv .4) (not-false _ (c .if2 .left)))
 
 returns-3 : tie.Need-returns-3 Inv-loop μ-loop
 returns-3 c = let b = c .before .before .before in let l = c .before .loop in (strokes-end (b .args .rt .now) (b .args .t3) (b .args .t4) (b .args .n) (l .k) (l .a) (b .args .st .now) (b .args .sp .now) (b .args .sc .now) (b .args .se .now) (b .args .fs .now) (b .args .fp .now) _ (search needs) (l .inv .4), l .inv .2, l .inv .3)

@@ -1,6 +1,6 @@
 use borrow.Author.Needs.{needs}
 use mathlib.Core.Path.{refl}
-use Rattle.bars.specs.Stores.{mergedStore}
+use Rattle.stores.specs.Stores.{mergedStore}
 use Rattle.strokes.specs.StoreSteps.{withUnfinished}
 use Rattle.strokes.proofs.StoredUnfinished.{begun-at}
 use Rattle.strokes.proofs.StoredCounts.{stay-begun}

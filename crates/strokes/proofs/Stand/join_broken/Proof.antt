@@ -6,7 +6,7 @@ use lib.ListN.{take, getD}
 use lib.IntN.{ℤ, pos}
 use mir.Syntax.{w64}
 use mir.ValLaws.{toZ-ofZ}
-use Rattle.bars.specs.Stores.{MergedStore, mergedStore, copiedMerged, placeOf}
+use Rattle.stores.specs.Stores.{MergedStore, mergedStore, copiedMerged, placeOf}
 use Rattle.strokes.specs.StoreSteps.{withUnfinished, withoutLast}
 use Rattle.strokes.proofs.StoredUnfinished.{room-of, join-place, join-room, join-after, was-joined}
 use Rattle.strokes.proofs.StoredCounts.{stay-joined}

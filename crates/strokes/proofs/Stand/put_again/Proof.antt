@@ -10,7 +10,7 @@ use mir.Syntax.{w64}
 use mir.ValLaws.{toZ-ofZ}
 use Rattle.bars.specs.declared.NewBar.{NewBar}
 use Rattle.bars.specs.Merging.{mergeAll, atTimes}
-use Rattle.bars.specs.Stores.{rawStore, mergedStore, newBarAt}
+use Rattle.stores.specs.Stores.{rawStore, mergedStore, newBarAt}
 use Rattle.strokes.specs.StoreSteps.{keptRaw, keptUnfinished, withUnfinished}
 use Rattle.strokes.specs.ElementCounts.{StaySized}
 use Rattle.strokes.proofs.StoredUnfinished.{room-of}

@@ -2,7 +2,7 @@ use borrow.Author.Needs.{needs}
 use native.Mathlib.Omega.{arith}
 use mathlib.Core.Path.{refl, ap}
 use Rattle.bars.specs.declared.Bar.{Bar}
-use Rattle.bars.specs.Stores.{mergedStore}
+use Rattle.stores.specs.Stores.{mergedStore}
 use Rattle.strokes.specs.StoreSteps.{withUnfinished}
 use Rattle.strokes.proofs.StoredUnfinished.{room-of, few-room, own-put, merged-put, apart-room, apart-put}
 use Rattle.strokes.proofs.StoredCounts.{stay-put, stay-last}

@@ -8,7 +8,7 @@ use mir.Syntax.{w64}
 use mir.Val.{toZ, ofZ}
 use mir.ValLaws.{toZ-ofZ}
 use Rattle.bars.specs.Merging.{atTimes}
-use Rattle.bars.specs.Stores.{rawStore, mergedStore, placeOf}
+use Rattle.stores.specs.Stores.{rawStore, mergedStore, placeOf}
 use Rattle.strokes.specs.StoreSteps.{keptRaw}
 use Rattle.strokes.proofs.StoredAgain.{none-past, none-there, one-there, none-named, one-fits, one-named}
 use Rattle.strokes.proofs.Stand.put_named.Statement.{statement}

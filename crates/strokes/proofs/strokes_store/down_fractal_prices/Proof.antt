@@ -3,7 +3,7 @@ use Prim.Native.Nat.{_≤_, _-_}
 use mathlib.Core.Path.{_≡_, refl}
 use lib.ListN.{length}
 use mathlib.Core.List.{[]}
-use Rattle.bars.specs.Stores.{copied}
+use Rattle.bars.specs.Lists.{copied}
 use Rattle.bars.proofs.Moves.{copied-none, down-turn, copied-end}
 use Rattle.strokes.proofs.strokes_store.down_fractal_prices.Statement.{statement}
 use Rattle.strokes.proofs.strokes_store.down_fractal_prices.Tie as tie

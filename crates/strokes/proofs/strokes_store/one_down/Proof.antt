@@ -1,7 +1,7 @@
 use Rattle.strokes.proofs.StoredStrokes.{shift-turn}
 use Rattle.strokes.specs.StrokeStore.{shifted}
 use Rattle.bars.proofs.Moves.{copied-none, copied-end}
-use Rattle.bars.specs.Stores.{copied}
+use Rattle.bars.specs.Lists.{copied}
 use lib.ListN.{length}
 use mathlib.Core.Path.{_≡_, refl, sym, ap, _∙_}
 use native.Mathlib.Omega.{arith}

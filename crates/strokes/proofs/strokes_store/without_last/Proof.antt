@@ -1,4 +1,4 @@
-use Rattle.strokes.specs.StrokeStore.{withoutLast}
+use Rattle.strokes.specs.StoreSteps.{withoutLast}
 use borrow.Author.Needs.{needs}
 use Rattle.strokes.proofs.strokes_store.without_last.Statement.{statement}
 use Rattle.strokes.proofs.strokes_store.without_last.Tie as tie

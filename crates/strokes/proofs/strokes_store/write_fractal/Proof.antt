@@ -1,19 +1,14 @@
 use borrow.Author.Needs.{needs}
-use mathlib.Core.Path.{_≡_, _∙_}
 use mathlib.Core.List.{[], _∷_}
 use lib.ListN.{set}
-use lib.IntN.{ℤ}
-use mir.Syntax.{w32, w64}
-use mir.Val.{SFits, toZ, ofZ}
+use mir.Syntax.{w64}
 use mir.ValLaws.{toZ-ofZ}
 use Rattle.strokes.specs.Stored.{fractalStore}
 use Rattle.strokes.specs.StrokeStore.{setFractal, stampsOf, pricesOf}
-use Rattle.bars.specs.Stores.{rowOf}
+use Rattle.bars.specs.Bars.{rowOf}
 use Rattle.strokes.proofs.strokes_store.write_fractal.Statement.{statement}
 use Rattle.strokes.proofs.strokes_store.write_fractal.Tie as tie
-
-stamp : (x r : ℤ) → SFits w32 x → SFits w64 r → r ≡ toZ w32 (ofZ w32 x) → toZ w64 (ofZ w64 r) ≡ x
-stamp x r h k e = toZ-ofZ w64 r k ∙ e ∙ toZ-ofZ w32 x h
+use Rattle.strokes.proofs.StoredFractals.{stamp}
 
 widened-requires : tie.Need-widened-requires
 widened-requires c κs = search needs

@@ -3,7 +3,7 @@ use Rattle.strokes.specs.StrokeStore.{lastOf, writing, fractalsOf}
 use Rattle.strokes.specs.Stored.{fractalStore}
 use Rattle.machine.specs.Fractals.{fxsAfter}
 use Rattle.machine.specs.declared.Mark.the-variants.{D}
-use Rattle.bars.specs.Stores.{rawStore}
+use Rattle.stores.specs.Stores.{rawStore}
 use lib.ListN.{length, drop}
 use mathlib.Core.Path.{_≡_, refl}
 use native.Mathlib.Omega.{arith}

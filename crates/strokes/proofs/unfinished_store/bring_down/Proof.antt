@@ -1,7 +1,7 @@
 use borrow.Author.Needs.{needs}
 use Prim.Native.Nat.{_-_}
 use native.Mathlib.Omega.{arith}
-use Rattle.bars.specs.Stores.{mergedStore}
+use Rattle.stores.specs.Stores.{mergedStore}
 use Rattle.strokes.proofs.StoredUnfinished.{parts-moved}
 use Rattle.strokes.proofs.unfinished_store.bring_down.Statement.{statement}
 use Rattle.strokes.proofs.unfinished_store.bring_down.Tie as tie

@@ -2,7 +2,7 @@ use Prim.Native.Nat.{ℕ}
 use mathlib.Core.Path.{_≡_, refl, sym, _∙_, ap}
 use lib.ListN.{length}
 use borrow.Author.Needs.{needs, length-unmapped}
-use Rattle.bars.specs.Stores.{rawStore, mergedStore}
+use Rattle.stores.specs.Stores.{rawStore, mergedStore}
 use Rattle.sound.specs.SoundStand.{storesOf}
 use Rattle.strokes.specs.Stored.{fractalStore}
 use Rattle.writing.proofs.WriteLaws.{can-put, can-move, can-keep, rooms1, rooms2, F, is-written}

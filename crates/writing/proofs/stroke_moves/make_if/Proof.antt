@@ -1,6 +1,6 @@
 use Rattle.writing.proofs.StepLaws.{made-one, made-none}
 use Rattle.strokes.specs.Stored.{fractalStore}
-use Rattle.bars.specs.Stores.{mergedStore}
+use Rattle.stores.specs.Stores.{mergedStore}
 use mathlib.Core.Path.{sym, _∙_, ap}
 use native.Mathlib.Omega.{arith}
 use borrow.Author.Needs.{needs}

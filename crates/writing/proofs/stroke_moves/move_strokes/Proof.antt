@@ -2,7 +2,7 @@ use Prim.Native.Nat.{ℕ}
 use borrow.Author.Needs.{length-unmapped}
 use Rattle.writing.proofs.MoveLaws.{has-moved}
 use Rattle.strokes.specs.Stored.{fractalStore}
-use Rattle.bars.specs.Stores.{mergedStore}
+use Rattle.stores.specs.Stores.{mergedStore}
 use lib.ListN.{length}
 use mathlib.Core.Path.{_≡_, refl, sym, _∙_, ap}
 use borrow.Author.Needs.{needs}

@@ -1,5 +1,5 @@
 use Rattle.writing.proofs.StepLaws.{begun-none}
-use Rattle.bars.specs.Stores.{mergedStore}
+use Rattle.stores.specs.Stores.{mergedStore}
 use mathlib.Core.Path.{sym, _∙_}
 use borrow.Author.Needs.{needs}
 use Rattle.writing.proofs.unfinished_moves.begin_from.Statement.{statement}

@@ -5,7 +5,7 @@ use lib.ListN.{length}
 use mathlib.Core.Path.{_≡_}
 use Rattle.strokes.specs.StrokeStore.{lastPlace, lastBars}
 use Rattle.strokes.specs.StoreSteps.{withoutLast, keptUnfinished}
-use Rattle.bars.specs.Stores.{mergedStore}
+use Rattle.stores.specs.Stores.{mergedStore}
 use mathlib.Core.Path.{sym, _∙_}
 use native.Mathlib.Omega.{arith}
 use borrow.Author.Needs.{needs}

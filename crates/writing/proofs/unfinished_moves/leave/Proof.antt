@@ -3,7 +3,7 @@ use mathlib.Core.Path.{ap}
 use Rattle.writing.specs.WriteSteps.{restOf, leftStand}
 use Rattle.strokes.specs.StrokeStore.{lastPlace, lastBars}
 use Rattle.strokes.specs.StoreSteps.{withoutLast, keptUnfinished, withUnfinished}
-use Rattle.bars.specs.Stores.{mergedStore}
+use Rattle.stores.specs.Stores.{mergedStore}
 use lib.ListN.{drop}
 use mathlib.Core.Path.{sym, _∙_}
 use native.Mathlib.Omega.{arith}

@@ -1,4 +1,4 @@
-use Rattle.bars.specs.Stores.{rawStore, mergedStore}
+use Rattle.stores.specs.Stores.{rawStore, mergedStore}
 use Rattle.writing.proofs.PutBars.{later-fits, again-fits, later-has, again-has}
 use mathlib.Core.Path.{sym, _∙_}
 use borrow.Author.Needs.{needs}
