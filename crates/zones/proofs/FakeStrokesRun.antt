@@ -16,7 +16,8 @@ use Rattle.machine.proofs.FewerFractals.{Alternate}
 use Rattle.machine.proofs.Facts.{AtMostOne, nothing, one}
 use Rattle.machine.proofs.Marks.{back, not-same}
 use Rattle.zones.specs.FakeStrokes.{Fake, evenPart, pairs, fakes, fakeDirection, fakeWith, fakeFrom, fakeOf, createFakeBis, Runs, FakesOf}
-use Rattle.zones.specs.Claims.{turned, Told}
+use Rattle.zones.specs.Claims.{Told}
+use Rattle.reports.specs.Unfinished.{turned}
 
 even-rest : {t : List Fractal} → AtMostOne t → evenPart t ≡ []
 unfolding evenPart

@@ -4,12 +4,6 @@ pub mod Demand3
 pub mod FakesOfTwo
 pub mod ZoneFolds
 pub mod RunFolds
-pub mod PortFollows
-pub mod BareClaims
-pub mod PortDemand3
-pub mod BatchFollows
-pub mod BatchLoop
-pub mod BatchSteps
 pub mod StrokesReadLaws
 pub mod RunReads
 pub mod Items
@@ -18,5 +12,4 @@ pub mod ZoneWalks
 pub mod NamedRunLaws
 pub mod ListedZoneLaws
 pub mod ZonesReadBack
-pub mod SameLengths
-pub mod FeedLaws
+pub mod FakesReadBack

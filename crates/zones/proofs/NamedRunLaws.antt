@@ -6,16 +6,16 @@ use native.Mathlib.Numerals.{add-one}
 use mathlib.Core.Path.{_≡_, refl, ap, sym, _∙_, subst}
 use mathlib.Core.Bool.{Bool, true, false, _&&_}
 use mathlib.Core.List.{List, [], _∷_, map}
-use mathlib.Core.Option.{Option, none, some}
+use mathlib.Core.Option.{Option, none}
 use lib.ListN.{length, take, drop, getD}
 use lib.Dec.{T, leb, ltb, leb→le}
 use Rattle.machine.specs.Strokes.{Stroke}
 use Rattle.strokes.specs.declared.Stand.{Stand}
 use Rattle.strokes.specs.Stored.{FractalStore, Stores, stateOf, strokeWith}
-use Rattle.strokes.specs.StrokeStore.{keptStrokes}
 use Rattle.sound.specs.Question4.{IsSound, question4}
 use Rattle.sound.proofs.SoundFacts.{Facts, facts, is-sound}
-use Rattle.reports.specs.Reports.{nth, exists, runExists, strokeExists, fractalsOf, question14}
+use Rattle.sound.proofs.SoundScans.{holds}
+use Rattle.reports.specs.Reports.{exists, runExists, strokeExists, fractalsOf, question14}
 use Rattle.zones.specs.declared.Summary.{Summary}
 use Rattle.zones.specs.declared.FakeStroke.{FakeStroke}
 use Rattle.zones.specs.declared.named_runs.RunAnswer.{RunAnswer}
@@ -26,16 +26,13 @@ use Rattle.zones.specs.StrokesRead.{strokePlace, fractalNumber, itemsFro
 use Rattle.zones.specs.NamedRuns.{failedIf, runFailed, namedRun, answerIf, bisUpAnswer, bisDownAnswer}
 use Rattle.zones.specs.FakeRows.{FakeColumns, fakeColumns, putFakes, readFakes, fakeAt, RoomFakes}
 use Rattle.zones.specs.ListedFakes.{fakesOf, strokeFailed, fakesFit, FakesCall, fakesCall, fakesIf, fakesAfter, listedFakes}
-use Rattle.zones.proofs.StrokesReadLaws.{fractalsAt, barsAt, stroke-at, stroke-stands, run-stands, run-read}
+use Rattle.zones.proofs.StrokesReadLaws.{stroke-is, stroke-stands, run-stands, run-read}
 use Rattle.zones.proofs.Items.{items-length}
 use Rattle.zones.proofs.FakeReads.{fakes-are}
 
 -- ---- the questions
 
-true-is : {b : Bool} → b ≡ true → T b
-true-is e = subst T (sym e) tt
-
-passed-if : (a b : Bool) → failedIf a b ≡ 0 → (a ≡ true) × (b ≡ true)
+pub passed-if : (a b : Bool) → failedIf a b ≡ 0 → (a ≡ true) × (b ≡ true)
 unfolding failedIf
 passed-if true true e = (refl, refl)
 passed-if true false e = let w : ⊥ = omega arith in absurd w
@@ -73,7 +70,7 @@ module _ (s : Stand) (m : Stores) (lb : length (s .bars) ≡ 65) (lf : length (s
     sound-here = is-sound s m (both-passed .0)
 
     pub run-fits : first + count ≤ s .strokes
-    run-fits = leb→le (first + count) (s .strokes) (true-is (sym (exists-is sound-here) ∙ both-passed .1))
+    run-fits = leb→le (first + count) (s .strokes) (holds (sym (exists-is sound-here) ∙ both-passed .1))
 
     pub run-here : RunStands s (m .fractals) first count
     run-here = run-stands s m lb lf sound-here first count run-fits
@@ -120,17 +117,11 @@ module _ (s : Stand) (m : Stores) (lb : length (s .bars) ≡ 65) (lf : length (s
   pub stroke-here : StrokeStands s (m .fractals) place
   stroke-here = stroke-stands s m lb lf (sound-here s m lb lf place 1 n e z) place below
 
-  stroke-is : nth ((stateOf s m) .strokes) place ≡ some (strokeWith (fractalsAt s (m .fractals) place) (barsAt s (m .strokes) place))
-  unfolding stateOf keptStrokes
-  stroke-is =
-      let few = (facts s m lb lf (sound-here s m lb lf place 1 n e z)) .few-strokes in
-      stroke-at s (m .strokes) (m .fractals) (omega arith) (omega arith) place below
-
   fakes-is : readFakes s (m .fractals) place ≡ fakesOf s m place
   unfolding fakesOf fractalsOf strokeWith
   fakes-is =
       fakes-are s (m .fractals) (s .rooms .strokes) place ((facts s m lb lf (sound-here s m lb lf place 1 n e z)) .fractals) stroke-here
-      ∙ ap (λ (x : Option Stroke). createFakeBis (fractalsOf x)) (sym stroke-is)
+      ∙ ap (λ (x : Option Stroke). createFakeBis (fractalsOf x)) (sym (stroke-is s m lb lf (sound-here s m lb lf place 1 n e z) place below))
 
   pub fakes-listed : (d : FakeColumns) (r : FakesCall) → r ≡ fakesIf (fakesFit d (readFakes s (m .fractals) place)) d (readFakes s (m .fractals) place) → r ≡ listedFakes s m place d
   unfolding listedFakes fakesAfter
@@ -162,7 +153,7 @@ and-three false b c e = absurd (subst T (sym e) tt)
 pub three-fit : (n a b c : ℕ) → (leb n a && (leb n b && leb n c)) ≡ true → (n ≤ a) × (n ≤ b) × (n ≤ c)
 three-fit n a b c e =
     let k = and-three (leb n a) (leb n b) (leb n c) e in
-    (leb→le n a (true-is (k .0)), leb→le n b (true-is (k .1)), leb→le n c (true-is (k .2)))
+    (leb→le n a (holds (k .0)), leb→le n b (holds (k .1)), leb→le n c (holds (k .2)))
 
 module _ (s : Stand) (f : FractalStore) (i n : ℕ) (d : FakeColumns) (b : Bool) (en : n ≡ fakeCount (fractalNumber s i)) (eb : b ≡ (leb n (length (d .times)) && (leb n (length (d .prices)) && leb n (length (d .codes))))) where
   pub fakes-room : b ≡ true → RoomFakes d (fakeCount (fractalNumber s i))

@@ -17,7 +17,7 @@ use Rattle.zones.specs.declared.runs_of_strokes.GrowingRun.{GrowingRun}
 use Rattle.zones.specs.Zones.{highs, lows, gg, dd, lastFrom}
 use Rattle.zones.specs.BisUpDown.{chronological, isRun, upFrom, downFrom, isBisUp, isBisDown}
 use Rattle.zones.specs.GrowingRun.{begun, inOrderWith, threeWith, moreOf, runOf, isRunOf, upOf, downOf}
-use Rattle.zones.proofs.ZoneFolds.{and-true, and-assoc}
+use Rattle.sound.proofs.SoundScans.{and-true, and-assoc}
 
 -- ---- how many strokes
 
@@ -70,7 +70,7 @@ run-fold a k x t u v [] = ap (λ (b : Bool). after a (suc k) x b u v) (sym (and-
 run-fold a k x t u v (s ∷ l) =
     ap (λ (r : GrowingRun). foldl moreOf r l) (more-is a k x t u v s)
     ∙ run-fold a (suc k) s (t && ltZ (x .ended) (s .ended)) (maxOf u (s .high)) (minOf v (s .low)) l
-    ∙ ap (λ (b : Bool). after a (counted (suc (suc k)) l) (lastFrom s l) b (Lists.foldl maxOf (maxOf u (s .high)) (highs l)) (Lists.foldl minOf (minOf v (s .low)) (lows l))) (and-assoc t (ltZ (x .ended) (s .ended)) (chronological (s ∷ l)))
+    ∙ ap (λ (b : Bool). after a (counted (suc (suc k)) l) (lastFrom s l) b (Lists.foldl maxOf (maxOf u (s .high)) (highs l)) (Lists.foldl minOf (minOf v (s .low)) (lows l))) (sym (and-assoc t (ltZ (x .ended) (s .ended)) (chronological (s ∷ l))))
 
 -- a run of one stroke is the run after one
 run-is : (a : Summary) (l : List Summary) → runOf a l ≡ after a (length (a ∷ l)) (lastFrom a l) (chronological (a ∷ l)) (gg (a ∷ l)) (dd (a ∷ l))

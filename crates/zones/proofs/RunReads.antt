@@ -2,11 +2,11 @@
 -- Assumes nothing.
 use Prim.Native.Nat.{ℕ, zero, suc, _+_, _-_, _*_, _/_, _≤_, _<_}
 use native.Mathlib.Omega.{arith}
-use mathlib.Core.Path.{_≡_, refl, ap, sym, _∙_, subst}
-use mathlib.Core.Bool.{Bool, true, false, not, _&&_}
+use mathlib.Core.Path.{_≡_, ap, sym, _∙_, subst}
+use mathlib.Core.Bool.{Bool, false, not, _&&_}
 use mathlib.Core.List.{List, [], _∷_, foldl}
 use lib.ListN.{take, getD}
-use lib.Dec.{T, leb, leb→le, nleb→lt, le→leb, not-T}
+use lib.Dec.{leb, leb→le, nleb→lt, le→leb, not-T}
 use Rattle.strokes.specs.declared.Stand.{Stand}
 use Rattle.machine.specs.declared.Mark.{Mark}
 use Rattle.check_bi.specs.declared.scan.Candle.{Candle}
@@ -19,6 +19,8 @@ use Rattle.zones.specs.GrowingRun.{begun, moreOf, runOf, upOf, downOf}
 use Rattle.zones.specs.StrokesRead.{strokePlace, fractalNumber, endRow, markAt, middleAt, summaryFrom, summaryAt, itemsFrom, readRun, StrokeStands, RunStands}
 use Rattle.zones.proofs.RunFolds.{up-grown, down-grown}
 use Rattle.zones.proofs.StrokesReadLaws.{run-first}
+use Rattle.sound.proofs.SoundScans.{same}
+use borrow.Author.Tests.{lt-leb, le-leb}
 
 -- a stroke that the code has read
 pub summary-done : (s : Stand) (f : FractalStore) (i place e : ℕ) (m : Mark) (a z : Candle) (r : Summary)
@@ -62,35 +64,22 @@ module _ (s : Stand) (f : FractalStore) (first count : ℕ) where
 
 -- ---- whether a run exists
 
-test-true : (b : Bool) → T b → b ≡ true
-test-true true h = refl
-test-true false h = absurd h
-
-test-false : (b : Bool) → (T b → ⊥) → b ≡ false
-test-false true h = absurd (h tt)
-test-false false h = refl
-
-same-tests : (a b : Bool) → (T a → T b) → (T b → T a) → a ≡ b
-same-tests true b f g = sym (test-true b (f tt))
-same-tests false b f g = sym (test-false b g)
-
 pub too-long : (first count n : ℕ) → n < count → false ≡ leb (first + count) n
-too-long first count n h = sym (test-false (leb (first + count) n) (λ t. let k = leb→le (first + count) n t in let w : ⊥ = omega arith in w))
+too-long first count n h = sym (lt-leb (first + count) n (omega arith))
 
 pub fits-behind : (first count n : ℕ) → count ≤ n → leb first (n - count) ≡ leb (first + count) n
 fits-behind first count n h =
-    same-tests (leb first (n - count)) (leb (first + count) n)
+    same (leb first (n - count)) (leb (first + count) n)
     (λ t. let k = leb→le first (n - count) t in le→leb (first + count) n (omega arith))
     (λ t. let k = leb→le (first + count) n t in le→leb first (n - count) (omega arith))
 
 -- ---- whether three columns have n places
 
 pub fit-first : (n a b c : ℕ) → a < n → false ≡ (leb n a && (leb n b && leb n c))
-fit-first n a b c h = sym (ap (λ (x : Bool). x && (leb n b && leb n c)) (test-false (leb n a) (λ t. let k = leb→le n a t in let w : ⊥ = omega arith in w)))
+fit-first n a b c h = sym (ap (λ (x : Bool). x && (leb n b && leb n c)) (lt-leb n a h))
 
 pub fit-second : (n a b c : ℕ) → n ≤ a → b < n → false ≡ (leb n a && (leb n b && leb n c))
-fit-second n a b c k h =
-    sym (λ i. test-true (leb n a) (le→leb n a k) i && (test-false (leb n b) (λ t. let k = leb→le n b t in let w : ⊥ = omega arith in w) i && leb n c))
+fit-second n a b c k h = sym (λ i. le-leb n a k i && (lt-leb n b h i && leb n c))
 
 pub fit-third : (n a b c : ℕ) → n ≤ a → n ≤ b → leb n c ≡ (leb n a && (leb n b && leb n c))
-fit-third n a b c k h = sym (λ i. test-true (leb n a) (le→leb n a k) i && (test-true (leb n b) (le→leb n b h) i && leb n c))
+fit-third n a b c k h = sym (λ i. le-leb n a k i && (le-leb n b h i && leb n c))

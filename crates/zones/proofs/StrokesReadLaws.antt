@@ -4,56 +4,43 @@ use Prim.Native.Nat.{ℕ, zero, suc, _+_, _-_, _*_, _/_, _≤_, _<_}
 use native.Mathlib.Omega.{arith}
 use native.Mathlib.Numerals.{add-one}
 use native.Mathlib.Nat.{zero-add}
-use mathlib.Core.Path.{_≡_, refl, ap, sym, _∙_, subst}
-use mathlib.Core.Bool.{Bool, true, false, _&&_}
+use mathlib.Core.Path.{_≡_, refl, ap, sym, _∙_}
+use mathlib.Core.Bool.{true, false, _&&_}
 use mathlib.Core.List.{List, [], _∷_, _++_, map, foldl}
-use mathlib.Core.Option.{Option, none, some}
+use mathlib.Core.Option.{Option, none, some, Option·some-injective}
 use lib.ListN.{length, take, drop, getD, length-take, length-drop}
-use lib.Seq.{take-take, drop-drop, drop-cons, getD-take, getD-drop, length-take-le}
+use lib.Seq.{take-take, drop-cons, getD-take, getD-drop, length-take-le}
 use lib.IntN.{ℤ, pos}
 use lib.Ieee.{Float, nan}
 use lib.Ieee.Fits.{and-l, and-r}
 use lib.Dec.{T, leb, leb→le}
 use Rattle.arith.specs.Order.{maxOf, minOf}
 use Rattle.bars.specs.Bars.{Merged}
-use Rattle.bars.specs.Lists.{every, some-of}
-use Rattle.bars.specs.Stores.{MergedStore, barOf, mergedBars}
-use Rattle.bars.proofs.Columns.{zip-at}
+use Rattle.bars.specs.Lists.{some-of}
+use Rattle.stores.specs.Stores.{MergedStore, barOf, mergedBars}
+use Rattle.stores.proofs.Columns.{zip-at}
 use Rattle.machine.specs.declared.Mark.{Mark}
-use Rattle.machine.specs.Fractals.{Fractal, timeOf, isTop}
+use Rattle.machine.specs.Fractals.{Fractal, timeOf}
 use Rattle.machine.specs.Strokes.{Stroke, directionOf}
 use Rattle.machine.specs.Break.{highOf, lowOf}
 use Rattle.machine.specs.Soundness.{alternates, sameFractal, isStroke, strokesPass}
 use Rattle.check_bi.specs.declared.scan.Candle.{Candle}
 use Rattle.check_bi.specs.Scan.{candleOf}
 use Rattle.strokes.specs.declared.Stand.{Stand}
-use Rattle.strokes.specs.Stored.{FractalStore, rowBar, fractalOf, rowFractal, noFractal, storedFractals, strokeWith, strokesWith, barCounts, fractalCounts, total, Stores, stateOf}
-use Rattle.strokes.specs.StrokeStore.{SizedFractals, keptStrokes, Fewer, Kept, rowMark}
-use Rattle.strokes.proofs.StoredStrokes.{stored-length, strokes-length, length-take-most}
+use Rattle.strokes.specs.Stored.{FractalStore, rowBar, fractalOf, rowFractal, noFractal, storedFractals, strokeWith, barCounts, fractalCounts, total, Stores, stateOf}
+use Rattle.strokes.specs.StrokeStore.{SizedFractals, Kept}
+use Rattle.strokes.proofs.StoredStrokes.{stored-length, length-take-most, row-mark, not-empty}
 use Rattle.sound.specs.Question4.{IsSound}
 use Rattle.sound.proofs.SoundFacts.{Facts, facts}
 use Rattle.reports.specs.Reports.{nth, runOf}
+use Rattle.reports.specs.NamedStrokes.{rowsOf, strokeIn}
+use Rattle.reports.proofs.StrokeAt.{stroke-at, every-nth, total-part, fewer-at}
+use Rattle.reports.proofs.NamedAnswers.{nth-at}
 use Rattle.zones.specs.declared.Summary.{Summary}
 use Rattle.zones.specs.Zones.{summary}
 use Rattle.zones.specs.StrokesRead.{strokePlace, fractalNumber, endRow, markAt, middleAt, summaryFrom, summaryAt, itemsFrom, readRun, StrokeStands, RunStands}
 
 -- ---- the stroke at a place
-
-nth-getD : {A : Type 0} (l : List A) (i : ℕ) (z : A) → i < length l → nth l i ≡ some (getD l i z)
-unfolding nth
-nth-getD [] i z h = let w : ⊥ = omega arith in absurd w
-nth-getD (a ∷ l) zero z h = refl
-nth-getD (a ∷ l) (suc i) z h = nth-getD l i z (omega arith)
-
-counted-at : (ns ms : List ℕ) (ks : List Merged) (fs : List Fractal) (i : ℕ) (z : Stroke) → i < length ns → length ns ≡ length ms
-    → getD (strokesWith ns ms ks fs) i z ≡ strokeWith (take (getD ms i 0) (drop (total (take i ns)) fs)) (take (getD ns i 0) (drop (total (take i ns)) ks))
-unfolding strokesWith total
-counted-at [] ms ks fs i z h e = let w : ⊥ = omega arith in absurd w
-counted-at (n ∷ ns) [] ks fs i z h e = let w : ⊥ = omega arith in absurd w
-counted-at (n ∷ ns) (m ∷ ms) ks fs zero z h e = refl
-counted-at (n ∷ ns) (m ∷ ms) ks fs (suc i) z h e =
-    counted-at ns ms (drop n ks) (drop n fs) i z (omega arith) (omega arith)
-    ∙ (λ j. strokeWith (take (getD ms i 0) (drop-drop (total (take i ns)) n fs j)) (take (getD ns i 0) (drop-drop (total (take i ns)) n ks j)))
 
 -- its fractals and its bars
 abbrev pub fractalsAt : Stand → FractalStore → ℕ → List Fractal
@@ -62,39 +49,12 @@ fractalsAt s f i = take (fractalNumber s i) (drop (strokePlace s i) (storedFract
 abbrev pub barsAt : Stand → MergedStore → ℕ → List Merged
 barsAt s k i = take (getD (s .bars) i 0) (drop (strokePlace s i) (mergedBars k))
 
-module _ (s : Stand) (k : MergedStore) (f : FractalStore) (lb : s .strokes ≤ length (s .bars)) (lf : s .strokes ≤ length (s .fractals)) where
-  same-counts : length (barCounts s) ≡ length (fractalCounts s)
-  unfolding barCounts fractalCounts
-  same-counts = length-take-le (s .strokes) (s .bars) lb ∙ sym (length-take-le (s .strokes) (s .fractals) lf)
-
-  pub kept-length : length (keptStrokes s k f) ≡ s .strokes
-  unfolding keptStrokes barCounts
-  kept-length = strokes-length (barCounts s) (fractalCounts s) (mergedBars k) (storedFractals f) same-counts ∙ length-take-le (s .strokes) (s .bars) lb
-
-  pub kept-at : (i : ℕ) (z : Stroke) → i < s .strokes → getD (keptStrokes s k f) i z ≡ strokeWith (fractalsAt s f i) (barsAt s k i)
-  unfolding keptStrokes barCounts fractalCounts fractalNumber strokePlace
-  kept-at i z h =
-      let a = take-take i (s .strokes) (s .bars) (omega arith) in
-      let b = getD-take (s .strokes) (s .bars) i 0 h in
-      let c = getD-take (s .strokes) (s .fractals) i 0 h in
-      counted-at (take (s .strokes) (s .bars)) (take (s .strokes) (s .fractals)) (mergedBars k) (storedFractals f) i z (omega (arith, length-take-le (s .strokes) (s .bars) lb)) same-counts
-      ∙ (λ j. strokeWith (take (c j) (drop (total (a j)) (storedFractals f))) (take (b j) (drop (total (a j)) (mergedBars k))))
-
-  pub stroke-at : (i : ℕ) → i < s .strokes → nth (keptStrokes s k f) i ≡ some (strokeWith (fractalsAt s f i) (barsAt s k i))
-  stroke-at i h =
-      let z = strokeWith [] [] in
-      nth-getD (keptStrokes s k f) i z (omega (arith, kept-length)) ∙ ap some (kept-at i z h)
-
 -- ---- what stands in a fractal's row
 
 row-middle : (t : List ℤ) (p : List Float) → candleOf ((rowFractal t p) .mid) ≡ record { time = getD t 1 (pos 0); high = getD p 8 nan; low = getD p 9 nan }
 unfolding candleOf rowFractal fractalOf rowBar barOf
 row-middle t p =
     λ j. record { time = getD t 1 (pos 0); high = (getD-take 6 (drop 6 p) 2 nan (omega arith) ∙ getD-drop 6 p 2 nan) j; low = (getD-take 6 (drop 6 p) 3 nan (omega arith) ∙ getD-drop 6 p 3 nan) j }
-
-row-mark : (t : List ℤ) (p : List Float) → (rowFractal t p) .mark ≡ rowMark p
-unfolding rowMark rowFractal fractalOf rowBar barOf isTop
-row-mark t p = refl
 
 module _ (s : Stand) (f : FractalStore) (n i : ℕ) (sized : SizedFractals f n) (h : StrokeStands s f i) where
   -- the j-th of its fractals
@@ -139,29 +99,6 @@ module _ (s : Stand) (f : FractalStore) (n i : ℕ) (sized : SizedFractals f n) 
 
 -- ---- a sound stand's strokes can be read
 
-every-at : {A : Type 0} (p : A → Bool) (l : List A) (i : ℕ) (z : A) → i < length l → T (every p l) → T (p (getD l i z))
-unfolding every
-every-at p [] i z h k = let w : ⊥ = omega arith in absurd w
-every-at p (a ∷ l) zero z h k = and-l (p a) (every p l) k
-every-at p (a ∷ l) (suc i) z h k = every-at p l i z (omega arith) (and-r (p a) (every p l) k)
-
-fewer-at : (ns ms : List ℕ) (i : ℕ) → i < length ns → i < length ms → Fewer ns ms → getD ms i 0 ≤ getD ns i 0
-fewer-at [] ms i h k f = let w : ⊥ = omega arith in absurd w
-fewer-at (n ∷ ns) [] i h k f = let w : ⊥ = omega arith in absurd w
-fewer-at (n ∷ ns) (m ∷ ms) zero h k f = f .0
-fewer-at (n ∷ ns) (m ∷ ms) (suc i) h k f = fewer-at ns ms i (omega arith) (omega arith) (f .1)
-
-total-within : (l : List ℕ) (i : ℕ) → i < length l → total (take i l) + getD l i 0 ≤ total l
-unfolding total
-total-within [] i h = let w : ⊥ = omega arith in absurd w
-total-within (n ∷ l) zero h = omega arith
-total-within (n ∷ l) (suc i) h = let k = total-within l i (omega arith) in omega arith
-
-not-empty : (p : Fractal → Bool) (l : List Fractal) → T (some-of p l) → 1 ≤ length l
-unfolding some-of
-not-empty p [] h = absurd h
-not-empty p (a ∷ l) h = omega arith
-
 has-fractal : (b : Stroke) → T (isStroke b) → 1 ≤ length (b .fractals)
 unfolding isStroke
 has-fractal b h =
@@ -180,12 +117,13 @@ module _ (s : Stand) (m : Stores) (lb : length (s .bars) ≡ 65) (lf : length (s
   within-fractals : s .strokes ≤ length (s .fractals)
   within-fractals = let few = F .few-strokes in omega arith
 
+  pub stroke-is : (i : ℕ) → i < s .strokes → nth ((stateOf s m) .strokes) i ≡ some (strokeWith (fractalsAt s (m .fractals) i) (barsAt s (m .strokes) i))
+  unfolding rowsOf strokeIn strokePlace fractalNumber
+  stroke-is i b = let few = F .few-strokes in stroke-at s m i b (omega arith) lb lf
+
   stroke-here : (i : ℕ) → i < s .strokes → T (isStroke (strokeWith (fractalsAt s (m .fractals) i) (barsAt s (m .strokes) i)))
-  unfolding strokesPass stateOf keptStrokes
-  stroke-here i b =
-      let z = strokeWith [] [] in
-      subst (λ (x : Stroke). T (isStroke x)) (kept-at s (m .strokes) (m .fractals) within-bars within-fractals i z b)
-      (every-at isStroke (keptStrokes s (m .strokes) (m .fractals)) i z (omega (arith, kept-length s (m .strokes) (m .fractals) within-bars within-fractals)) (F .clauses .strokes))
+  unfolding strokesPass
+  stroke-here i b = every-nth isStroke ((stateOf s m) .strokes) i (strokeWith (fractalsAt s (m .fractals) i) (barsAt s (m .strokes) i)) (stroke-is i b) (F .clauses .strokes)
 
   pub stroke-stands : (i : ℕ) → i < s .strokes → StrokeStands s (m .fractals) i
   unfolding barCounts fractalCounts strokePlace fractalNumber strokeWith
@@ -198,10 +136,10 @@ module _ (s : Stand) (m : Stores) (lb : length (s .bars) ≡ 65) (lf : length (s
       let most = length-take-most (fractalNumber s i) (drop (strokePlace s i) (storedFractals (m .fractals))) in
       let lenb = length-take-le n (s .bars) within-bars in
       let lenf = length-take-le n (s .fractals) within-fractals in
-      let less = fewer-at (barCounts s) (fractalCounts s) i (omega arith) (omega arith) (F .kept .fewer) in
+      let less = fewer-at (barCounts s) (fractalCounts s) i (F .kept .fewer) (omega arith) (omega arith) in
       let x = getD-take n (s .bars) i 0 b in
       let y = getD-take n (s .fractals) i 0 b in
-      let t = total-within (barCounts s) i (omega arith) in
+      let t = total-part (barCounts s) i (omega arith) in
       let u = ap total (take-take i n (s .bars) (omega arith)) in
       let p = F .fractals .stamps in
       let q = F .fractals .prices in
@@ -211,8 +149,7 @@ module _ (s : Stand) (m : Stores) (lb : length (s .bars) ≡ 65) (lf : length (s
   run-stands first count b = let few = F .few-strokes in record { places = omega arith; each = λ j k. stroke-stands (first + j) (omega arith) }
 
   state-at : (i : ℕ) (z : Stroke) → i < s .strokes → getD ((stateOf s m) .strokes) i z ≡ strokeWith (fractalsAt s (m .fractals) i) (barsAt s (m .strokes) i)
-  unfolding stateOf keptStrokes
-  state-at i z b = kept-at s (m .strokes) (m .fractals) within-bars within-fractals i z b
+  state-at i z b = Option·some-injective _ _ (sym (nth-at ((stateOf s m) .strokes) i z (omega (arith, F .strokes-length))) ∙ stroke-is i b)
 
   -- a run that is read is the run of the state's strokes
   pub run-read : (first count : ℕ) → first + count ≤ s .strokes → readRun s (m .fractals) first count ≡ map summary (runOf ((stateOf s m) .strokes) first count)

@@ -14,14 +14,7 @@ use Rattle.zones.specs.declared.Summary.{Summary}
 use Rattle.zones.specs.declared.zone_building.GrowingZone.{GrowingZone}
 use Rattle.zones.specs.Zones.{Zone, highs, lows, zg, zd, zz, gg, dd, outside, opens, meetsRange, isValid, zoneWith, lastFrom, zoneOf}
 use Rattle.zones.specs.GrowingZone.{started, joinedEarly, joinedLater, joinedIf, joinedOf, grown, outsideOf, opensOf, zzOf, firstMeet, validOf, zoneFrom}
-
-pub and-true : (t : Bool) → t && true ≡ t
-and-true true = refl
-and-true false = refl
-
-pub and-assoc : (s t u : Bool) → (s && t) && u ≡ s && (t && u)
-and-assoc true t u = refl
-and-assoc false t u = refl
+use Rattle.sound.proofs.SoundScans.{and-true, and-assoc}
 
 -- of three strokes a, b, c or more
 abbrev threeOn : Summary → Summary → Summary → Float → Float → Summary → Float → Float → Bool → GrowingZone
@@ -34,7 +27,7 @@ module _ (a b c : Summary) (g d : Float) where
   later-fold x u v t [] = ap (threeOn a b c g d x u v) (sym (and-true t))
   later-fold x u v t (s ∷ l) =
       later-fold s (maxOf u (s .high)) (minOf v (s .low)) (t && meetsRange g d s) l
-      ∙ ap (threeOn a b c g d (lastFrom s l) (Lists.foldl maxOf (maxOf u (s .high)) (highs l)) (Lists.foldl minOf (minOf v (s .low)) (lows l))) (and-assoc t (meetsRange g d s) (every (meetsRange g d) l))
+      ∙ ap (threeOn a b c g d (lastFrom s l) (Lists.foldl maxOf (maxOf u (s .high)) (highs l)) (Lists.foldl minOf (minOf v (s .low)) (lows l))) (sym (and-assoc t (meetsRange g d s) (every (meetsRange g d) l)))
 
 -- ---- is_valid: a missing stroke stands for the one before it
 

@@ -10,7 +10,7 @@ use lib.Seq.{take-at, take-append-seam, drop-append-seam}
 use lib.IntN.{ℤ}
 use lib.Ieee.{Float}
 use Rattle.bars.specs.Lists.{join}
-use Rattle.bars.specs.Stores.{zipWith}
+use Rattle.stores.specs.Stores.{zipWith}
 use Rattle.machine.specs.declared.Direction.{Direction}
 use Rattle.machine.specs.declared.Direction.the-variants.{Up, Down}
 use Rattle.strokes.specs.StrokeStore.{pasted}
@@ -21,7 +21,7 @@ use Rattle.zones.specs.ZoneRows.{flag, zoneTimes, zonePrices, zoneNumber
 use Rattle.zones.specs.ZonesRead.{directionFrom, flagFrom, strokeFrom, strokesRead, zoneRead, zonesFrom, zonesRead}
 use Rattle.zones.proofs.ZonesJoin.{zones-joined}
 
-direction-back : (d : Direction) → directionFrom (directionCode d) ≡ d
+pub direction-back : (d : Direction) → directionFrom (directionCode d) ≡ d
 unfolding directionFrom directionCode
 direction-back Up = refl
 direction-back Down = refl
@@ -32,18 +32,20 @@ flag-back true = refl
 flag-back false = refl
 
 -- the rows in front
-front-back : {A B : Type 0} (row : A → B) (d : List B) (l : List A) (n : ℕ) → n ≡ length l → take n (pasted d 0 (map row l)) ≡ map row l
+pub front-back : {A B : Type 0} (row : A → B) (d : List B) (l : List A) (n : ℕ) → n ≡ length l → take n (pasted d 0 (map row l)) ≡ map row l
 unfolding pasted
 front-back row d l n e = take-at (map row l) (drop (0 + length (map row l)) d) n (length-map l row ∙ sym e)
+
+-- items of three columns, a row of each to an item
+pub rows-back : {A T P C : Type 0} (make : T → P → C → A) (t : A → T) (p : A → P) (c : A → C) → ((a : A) → make (t a) (p a) (c a) ≡ a) → (l : List A)
+    → zipWith (λ g d. g d) (zipWith make (map t l) (map p l)) (map c l) ≡ l
+unfolding zipWith
+rows-back make t p c h [] = refl
+rows-back make t p c h (a ∷ l) = λ i. h a i ∷ rows-back make t p c h l i
 
 stroke-back : (b : Summary) → strokeFrom (strokeTimes b) (strokePrices b) (strokeCode b) ≡ b
 unfolding strokeFrom strokeTimes strokePrices strokeCode
 stroke-back b = λ i. record { direction = direction-back (b .direction) i; high = b .high; low = b .low; began = b .began; ended = b .ended }
-
-strokes-back : (l : List Summary) → zipWith (λ g d. g d) (zipWith strokeFrom (map strokeTimes l) (map strokePrices l)) (map strokeCode l) ≡ l
-unfolding zipWith
-strokes-back [] = refl
-strokes-back (b ∷ l) = λ i. stroke-back b i ∷ strokes-back l i
 
 zone-back : (z : Zone) (rest : List Summary) → zoneRead (zoneTimes z) (zonePrices z) (zoneNumbers z) (z .strokes ++ rest) ≡ z
 unfolding zoneRead zoneTimes zonePrices zoneNumbers
@@ -77,6 +79,6 @@ zones-read d e l =
     let z = getZsSeq l in
     let s : strokesRead (length l) (putStrokes e l) ≡ l =
     (λ i. zipWith (λ g d. g d) (zipWith strokeFrom (front-back strokeTimes (e .times) l (length l) refl i) (front-back strokePrices (e .prices) l (length l) refl i)) (front-back strokeCode (e .codes) l (length l) refl i))
-    ∙ strokes-back l in
+    ∙ rows-back strokeFrom strokeTimes strokePrices strokeCode stroke-back l in
     (λ i. zonesFrom (front-back zoneTimes (d .times) z (length z) refl i) (front-back zonePrices (d .prices) z (length z) refl i) (front-back zoneNumbers (d .numbers) z (length z) refl i) ((s ∙ sym (zones-joined l)) i))
     ∙ zones-back z

@@ -1,4 +1,4 @@
--- Instances of zones and of runs of strokes, computed, with the Rust's answers. Fed bars never gave a zone that is not valid, so these are given directly.
+-- Instances of zones and of runs of strokes, computed, with the Rust's answers, and rows read back. Fed bars never gave a zone that is not valid, so these are given directly.
 use Prim.Native.Nat.{ℕ}
 use mathlib.Core.Path.{_≡_, refl}
 use mathlib.Core.Bool.{Bool, true, false}
@@ -9,8 +9,13 @@ use lib.Ieee.{Float, fin, binary64, ofInt}
 use Rattle.machine.specs.declared.Direction.{Direction}
 use Rattle.machine.specs.declared.Direction.the-variants.{Up, Down}
 use Rattle.zones.specs.declared.Summary.{Summary}
+use Rattle.zones.specs.declared.FakeStroke.{FakeStroke}
 use Rattle.zones.specs.Zones.{Zone, getZsSeq}
 use Rattle.zones.specs.BisUpDown.{isBisUp, isBisDown}
+use Rattle.zones.specs.FakeRows.{fakeColumns}
+use Rattle.zones.specs.FakesRead.{fakesRead}
+use Rattle.zones.specs.ZoneRows.{zoneColumns, strokeColumns}
+use Rattle.zones.specs.ZonesRead.{zonesRead}
 
 -- a stroke from the time s to the time e, of this high and low
 unfoldable stroke : Direction → ℕ → ℕ → ℕ → ℕ → Summary
@@ -113,3 +118,42 @@ one = refl
 two : ways (stroke Up 15 10 1 4 ∷ stroke Down 15 12 4 7 ∷ []) ≡ (false, false)
 unfolding ways stroke
 two = refl
+
+-- ---- rows read back
+
+unfoldable times : ℕ → ℕ → List ℤ
+times s e = pos s ∷ pos e ∷ []
+
+unfoldable price : ℕ → Float
+unfolding ofInt
+price n = ofInt binary64 (pos n)
+
+unfoldable fake : Direction → ℕ → ℕ → ℕ → ℕ → ℕ → FakeStroke
+unfolding price
+fake d s e h l p = record { direction = d; sdt = pos s; edt = pos e; high = price h; low = price l; power = price p }
+
+-- the first two rows of three: the third stays unread
+two-fakes :
+    fakesRead 2
+    (fakeColumns (times 1 4 ∷ times 4 7 ∷ times 7 9 ∷ [])
+    ((price 15 ∷ price 10 ∷ price 5 ∷ []) ∷ (price 15 ∷ price 12 ∷ price 3 ∷ []) ∷ (price 18 ∷ price 12 ∷ price 6 ∷ []) ∷ []) (0 ∷ 1 ∷ 0 ∷ []))
+    ≡ fake Up 1 4 15 10 5 ∷ fake Down 4 7 15 12 3 ∷ []
+unfolding fakesRead times price fake
+two-fakes = refl
+
+-- two zones with the first stroke and with the next two: the last number of a zone's row says how many
+unfoldable zonesIn : List Zone
+unfolding zonesRead times price
+zonesIn =
+    zonesRead 2 3
+    (zoneColumns (times 1 4 ∷ times 4 9 ∷ []) ((price 1 ∷ price 2 ∷ price 3 ∷ price 4 ∷ price 5 ∷ []) ∷ (price 6 ∷ price 7 ∷ price 8 ∷ price 9 ∷ price 10 ∷ []) ∷ [])
+    ((0 ∷ 0 ∷ 1 ∷ 1 ∷ []) ∷ (1 ∷ 0 ∷ 0 ∷ 2 ∷ []) ∷ []))
+    (strokeColumns (times 1 4 ∷ times 4 7 ∷ times 7 9 ∷ []) ((price 15 ∷ price 10 ∷ []) ∷ (price 15 ∷ price 12 ∷ []) ∷ (price 18 ∷ price 12 ∷ []) ∷ []) (0 ∷ 1 ∷ 0 ∷ []))
+
+zones-told : map told zonesIn ≡ is 1 2 4 5 true 1 ∷ is 6 7 9 10 false 2 ∷ []
+unfolding zonesIn told is price
+zones-told = refl
+
+zones-strokes : map (λ z. z .strokes) zonesIn ≡ (stroke Up 15 10 1 4 ∷ []) ∷ (stroke Down 15 12 4 7 ∷ stroke Up 18 12 7 9 ∷ []) ∷ []
+unfolding zonesIn stroke price
+zones-strokes = refl

@@ -8,7 +8,6 @@ use lib.IntN.{ℤ}
 use Rattle.bars.specs.declared.Bar.{Bar}
 use Rattle.bars.specs.Lists.{All, join}
 use Rattle.machine.specs.declared.Direction.{Direction}
-use Rattle.machine.specs.declared.Direction.the-variants.{Up, Down}
 use Rattle.machine.specs.Fractals.{Fractal, timeOf}
 use Rattle.machine.specs.Strokes.{Stroke, directionOf}
 use Rattle.machine.specs.Stand.{Settings}
@@ -19,16 +18,12 @@ use Rattle.zones.specs.declared.Summary.{Summary}
 use Rattle.zones.specs.declared.FakeStroke.{FakeStroke}
 use Rattle.zones.specs.FakeStrokes.{FakesOf, fakes, createFakeBis}
 use Rattle.zones.specs.Zones.{Zone, summary, getZsSeq}
+use Rattle.reports.specs.Unfinished.{turned}
 
 -- the strokes that were made and neither broken nor shed
 unfoldable pub kept : Settings → List Bar → List Stroke
 unfolding calls
 kept c bs = (calls c bs) .state .strokes
-
--- the other way
-unfoldable pub turned : Direction → Direction
-turned Up = Down
-turned Down = Up
 
 -- answered fake strokes, the first from time t in the direction d: each begins at the time at which the one before ends and goes the other way, and the last ends at u
 abbrev pub Told : ℤ → Direction → List FakeStroke → ℤ → Type 0

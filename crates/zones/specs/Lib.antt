@@ -11,10 +11,8 @@ pub mod ZoneRows
 pub mod ListedFakes
 pub mod ListedZones
 pub mod ZonesRead
+pub mod FakesRead
 pub mod Cases
 pub mod Marked
 pub mod Runs
 pub mod Claims
-pub mod PortCalls
-pub mod PortClaims
-pub mod BatchCalls

@@ -9,11 +9,10 @@ use lib.IntN.{ℤ, pos, negsuc}
 use lib.Ieee.{Float, fin, binary64, round, neg, ofInt}
 use Rattle.arith.specs.Rounding.{roundTo}
 use Rattle.bars.specs.declared.Bar.{Bar}
-use Rattle.bars.specs.Bars.{Merged, own}
+use Rattle.bars.specs.Bars.{Merged, own, rowOf}
 use Rattle.bars.specs.Merging.{mergeAll}
 use Rattle.bars.specs.declared.gaps.Gap.{Gap}
 use Rattle.bars.specs.declared.gaps.Gap.the-variants as Gaps
-use Rattle.bars.specs.Stores.{rowOf}
 use Rattle.bars.specs.Gaps.{gapsOf}
 use Rattle.machine.specs.declared.Mark.{Mark}
 use Rattle.machine.specs.declared.Mark.the-variants.{D, G}

@@ -10,12 +10,11 @@ use lib.ListN.{length, take}
 use lib.IntN.{ℤ, pos, negsuc}
 use lib.Ieee.{Float, fin, neg}
 use Rattle.bars.specs.declared.Bar.{Bar}
-use Rattle.bars.specs.Bars.{Merged}
+use Rattle.bars.specs.Bars.{Merged, rowOf}
 use Rattle.bars.specs.Lists.{join}
 use Rattle.bars.specs.Merging.{atTimes}
 use Rattle.bars.specs.declared.gaps.Gap.{Gap}
 use Rattle.bars.specs.declared.gaps.Gap.the-variants as Gaps
-use Rattle.bars.specs.Stores.{rowOf}
 use Rattle.bars.specs.Gaps.{gapsOf}
 use Rattle.machine.specs.declared.Mark.{Mark}
 use Rattle.machine.specs.declared.Mark.the-variants.{D, G}

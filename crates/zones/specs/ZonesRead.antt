@@ -5,7 +5,7 @@ use mathlib.Core.List.{List, [], _∷_}
 use lib.ListN.{take, drop, getD}
 use lib.IntN.{ℤ, pos}
 use lib.Ieee.{Float, nan}
-use Rattle.bars.specs.Stores.{zipWith}
+use Rattle.stores.specs.Stores.{zipWith}
 use Rattle.machine.specs.declared.Direction.{Direction}
 use Rattle.machine.specs.declared.Direction.the-variants.{Up, Down}
 use Rattle.zones.specs.declared.Summary.{Summary}

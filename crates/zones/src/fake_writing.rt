@@ -5,7 +5,7 @@ ghost use Prim.Native.Nat.{_+_, _<_, _≤_};
 ghost use mathlib.Core.Bool.{_&&_};
 ghost use lib.Dec.{leb};
 ghost use lib.ListN.{length, set};
-ghost use Rattle.bars.specs.Stores.{rawStore, mergedStore};
+ghost use Rattle.stores.specs.Stores.{rawStore, mergedStore};
 ghost use Rattle.sound.specs.SoundStand.{storesOf};
 ghost use Rattle.zones.specs.ListedFakes.{fakesFit, fakesIf, fakesCall, listedFakes};
 ghost use Rattle.strokes.specs.Stored.{fractalStore};

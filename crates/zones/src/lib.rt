@@ -1,8 +1,6 @@
-// Fake strokes, zones, what is told of runs of strokes, and the batch call.
-mod batch;
+// Fake strokes, zones, and what is told of runs of strokes.
 mod fake_strokes;
 mod fake_writing;
-mod feed;
 mod lent_zone;
 mod named_runs;
 mod reading;
@@ -10,14 +8,10 @@ mod runs_of_strokes;
 mod zone_building;
 mod zone_writing;
 
-pub use batch::BatchAnswer;
-pub use batch::feed_all;
 pub use fake_strokes::fake_count;
 pub use fake_strokes::fake_stroke;
 pub use fake_writing::FakesAnswer;
 pub use fake_writing::create_fake_bis;
-pub use feed::Czsc;
-pub use feed::FeedAnswer;
 pub use lent_zone::join_all;
 pub use lent_zone::join_in_place;
 use machine::Direction;

@@ -3,7 +3,7 @@ ghost use mathlib.Core.Path.{_≡_};
 ghost use mathlib.Core.List.{map};
 ghost use Prim.Native.Nat.{_+_, _<_, _≤_};
 ghost use lib.ListN.{length, set};
-ghost use Rattle.bars.specs.Stores.{rawStore, mergedStore};
+ghost use Rattle.stores.specs.Stores.{rawStore, mergedStore};
 ghost use Rattle.sound.specs.SoundStand.{storesOf};
 ghost use Rattle.zones.specs.ListedZones.{zonesFit, strokesFit, zonesIf, zonesCall, listedZones};
 ghost use Rattle.strokes.specs.Stored.{fractalStore};

@@ -1,0 +1,122 @@
+-- The batch call asks of question 4 only the clause on the newest raw bar: of what is reached from a fresh analyzer the other clauses hold. Laws on lists of
+-- calls that grow at the end. Assumes nothing.
+use Prim.Native.Nat.{ℕ, zero, suc}
+use native.Mathlib.Omega.{arith}
+use mathlib.Core.Path.{_≡_, refl, ap, sym, _∙_, subst}
+use mathlib.Core.Bool.{Bool, true, _&&_}
+use mathlib.Core.List.{List, [], _∷_, _++_}
+use lib.Dec.{T}
+use lib.Ieee.Bits.{is-true}
+use lib.Ieee.Fits.{and-l, and-r}
+use Rattle.bars.specs.declared.Bar.{Bar}
+use Rattle.machine.specs.Stand.{Settings, State}
+use Rattle.machine.specs.Feed.{Events}
+use Rattle.machine.specs.Soundness.{countsFit, listsSound, settingsSound, soundBut, newestLast, sound}
+use Rattle.machine.specs.Calls.{calls}
+use Rattle.machine.proofs.ReachedSound.{reached-sound}
+use Rattle.strokes.specs.declared.Stand.{Stand}
+use Rattle.strokes.specs.Stored.{Stores, settingsOf, stateOf, storesSized, sized, bareState}
+use Rattle.strokes.proofs.BareSound.{bare-sound}
+use Rattle.sound.specs.FreshStand.{freshOf}
+use Rattle.sound.specs.Question4.{question4}
+use Rattle.sound.proofs.FreshLaws.{fresh-sound}
+use Rattle.feed.specs.PortCalls.{FeedIs, added, PortCalls, none, call, acceptedIf, acceptedOf, FreshCalls, begun}
+use Rattle.batch.specs.BatchCalls.{AllAccepted, NewestAsked, Begun}
+use Rattle.feed.proofs.PortFollows.{added-assoc, added-none, none-added}
+use Rattle.feed.proofs.PortStays.{settings-stay, sizes-stay}
+use Rattle.feed.proofs.PortDemand3.{port-demand3}
+
+-- ---- one more call
+
+abbrev events : ℕ → ℕ → ℕ → Events
+events made broken shed = record { made = made; broken = broken; shed = shed }
+
+-- calls of which the bars l are accepted
+record Taking (s : Stand) (m : Stores) (bs : List Bar) (e : Events) (t : Stand) (k : Stores) (l : List Bar) : Type 0 where
+  calls : PortCalls s m bs e t k
+  taken : acceptedOf calls ≡ l
+
+accepted-append : (n : ℕ) (a : Bar) (l r : List Bar) → acceptedIf n a (l ++ r) ≡ acceptedIf n a l ++ r
+unfolding acceptedIf
+accepted-append zero a l r = refl
+accepted-append (suc n) a l r = refl
+
+grown : {s t t' : Stand} {m k k' : Stores} {bs : List Bar} {b : Bar} {e : Events} {failed made broken shed : ℕ}
+    → (p : PortCalls s m bs e t k) → FeedIs t k b failed made broken shed t' k'
+    → Taking s m (bs ++ b ∷ []) (added e (events made broken shed)) t' k' (acceptedOf p ++ acceptedIf failed b [])
+unfolding acceptedOf
+grown {t' = t'} {k' = k'} {b = b} {failed = n} {made = made} {broken = broken} {shed = shed} (none {s = s} {m = m}) f =
+    let v = events made broken shed in
+    subst (λ (e : Events). Taking s m (b ∷ []) e t' k' (acceptedIf n b [])) (added-none v ∙ sym (none-added v)) (record { calls = call f none; taken = refl })
+grown {t' = t'} {k' = k'} {b = b} {failed = n} {made = made} {broken = broken} {shed = shed} (call {s = s} {m = m} {b = a} {bs = bs} {failed = o} {made = ma} {broken = br} {shed = sh} {e = e} g p) f =
+    let v = events made broken shed in
+    let w = grown p f in
+    subst (λ (z : Events). Taking s m (a ∷ bs ++ b ∷ []) z t' k' (acceptedIf o a (acceptedOf p) ++ acceptedIf n b [])) (sym (added-assoc (events ma br sh) e v))
+    (record { calls = call g (w .calls); taken = ap (acceptedIf o a) (w .taken) ∙ accepted-append o a (acceptedOf p) (acceptedIf n b []) })
+
+pub port-snoc : {s t t' : Stand} {m k k' : Stores} {bs : List Bar} {b : Bar} {e : Events} {failed made broken shed : ℕ}
+    → PortCalls s m bs e t k → FeedIs t k b failed made broken shed t' k'
+    → PortCalls s m (bs ++ b ∷ []) (added e (events made broken shed)) t' k'
+port-snoc p f = (grown p f) .calls
+
+-- one more that is accepted
+pub accepted-snoc : {s t t' : Stand} {m k k' : Stores} {bs : List Bar} {b : Bar} {e : Events} {made broken shed : ℕ}
+    → AllAccepted s m bs e t k → FeedIs t k b 0 made broken shed t' k'
+    → AllAccepted s m (bs ++ b ∷ []) (added e (events made broken shed)) t' k'
+unfolding acceptedIf
+accepted-snoc {b = b} a f =
+    let w = grown (a .calls) f in
+    record { calls = w .calls; taken = w .taken ∙ ap (λ (l : List Bar). l ++ b ∷ []) (a .taken) }
+
+-- ---- of what is reached, only the newest raw bar is in doubt
+
+fresh-passes : (s : Stand) (m : Stores) → sized s m && sound (settingsOf s) (stateOf s m) ≡ true → T (sized s m) × T (settingsSound (settingsOf s))
+unfolding sound soundBut
+fresh-passes s m e =
+    let c = settingsOf s in
+    let x = stateOf s m in
+    let h : T (sized s m && sound c x) = subst T (sym e) tt in
+    let b = countsFit c x && listsSound (c .most) x in
+    let u = settingsSound c && b in
+    let k = and-r (sized s m) (u && newestLast x) h in
+    (and-l (sized s m) (u && newestLast x) h, and-l (settingsSound c) b (and-l u (newestLast x) k))
+
+newest-bare : (x : State) → newestLast x ≡ newestLast (bareState x)
+unfolding newestLast bareState
+newest-bare x = refl
+
+asks-newest : (c : Settings) (x : State) → T (soundBut c x) → sound c (bareState x) ≡ newestLast (bareState x)
+unfolding sound
+asks-newest c x h = bare-sound c x ∙ ap (λ (t : Bool). t && newestLast x) (is-true (soundBut c x) h) ∙ newest-bare x
+
+pub reached-asks : (r : FreshCalls) → (freshOf (r .minimum) (r .most) (r .rooms)) .refused ≡ 0 → storesSized (begun r) (r .lent) ≡ true
+    → question4 (r .stand) (r .stores) ≡ newestLast (stateOf (r .stand) (r .stores))
+unfolding question4
+reached-asks r z h =
+    let c = settingsOf (begun r) in
+    let f = fresh-passes (begun r) (r .lent) (fresh-sound (r .minimum) (r .most) (r .rooms) (r .lent) z h) in
+    let e = port-demand3 .machine r h in
+    (λ i. is-true (sized (r .stand) (r .stores)) (sizes-stay (r .calls) (f .0)) i && sound (settings-stay (r .calls) i) (e i))
+    ∙ asks-newest c ((calls c (r .bars)) .state) (reached-sound .every c (f .1) (r .bars))
+    ∙ ap newestLast (sym e)
+
+pub reached-sizes : (r : FreshCalls) → (freshOf (r .minimum) (r .most) (r .rooms)) .refused ≡ 0 → storesSized (begun r) (r .lent) ≡ true → T (sized (r .stand) (r .stores))
+reached-sizes r z h =
+    sizes-stay (r .calls) ((fresh-passes (begun r) (r .lent) (fresh-sound (r .minimum) (r .most) (r .rooms) (r .lent) z h)) .0)
+
+pub begun-asks : {s t : Stand} {m k : Stores} {bs : List Bar} {e : Events} → Begun s m → PortCalls s m bs e t k → NewestAsked t k
+begun-asks {t = t} {m = m} {k = k} {bs = bs} {e = e} b p =
+    let r : FreshCalls =
+    record {
+      minimum = b .minimum;
+      most = b .most;
+      rooms = b .rooms;
+      lent = m;
+      bars = bs;
+      sums = e;
+      stand = t;
+      stores = k;
+      calls = subst (λ (z : Stand). PortCalls z m bs e t k) (sym (b .stand)) p;
+    } in
+    let h : storesSized (begun r) m ≡ true = subst (λ (z : Stand). storesSized z m ≡ true) (sym (b .stand)) (b .stores) in
+    record { sizes = reached-sizes r (b .answered) h; question = reached-asks r (b .answered) h }

@@ -1,0 +1,3 @@
+pub mod BatchFollows
+pub mod BatchLoop
+pub mod BatchSteps

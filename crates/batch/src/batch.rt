@@ -1,0 +1,344 @@
+// A list of bars fed to a fresh analyzer in one call.
+ghost use mathlib.Core.Path.{_≡_};
+ghost use Prim.Native.Nat.{min};
+ghost use lib.ListN.{length};
+ghost use Rattle.stores.specs.Stores.{rawStore, mergedStore, rawBars, barAt};
+ghost use Rattle.strokes.specs.Stored.{fractalStore};
+ghost use Rattle.sound.specs.SoundStand.{storesOf};
+ghost use Rattle.feed.specs.PortCalls.{FeedIs};
+ghost use Rattle.batch.specs.BatchCalls.{BatchIs, BatchFed, NewestAsked, CanBatch, CanNext, NextIs, CanAdvance, advanced, leftOf};
+use bars::Bar;
+use feed::FeedAnswer;
+use feed::feed_sound;
+use strokes::Rooms;
+use strokes::Stand;
+
+// What the batch call answers: the stand after the last bar that was accepted, how many bars were
+// accepted, the number of the question that was answered "no", or 0, and the strokes made, broken
+// and shed.
+pub struct BatchAnswer {
+    pub stand: Stand,
+    pub fed: usize,
+    pub failed: u64,
+    pub made: u64,
+    pub broken: u64,
+    pub shed: u64,
+}
+
+// A feed that asks of question 4 only the clause on the newest raw bar.
+fn feed_newest(
+    stand: Stand,
+    rt: &mut [i64],
+    ri: &mut [i32],
+    rp: &mut [[f64; 6]],
+    ut: &mut [i64],
+    ui: &mut [i32],
+    up: &mut [[f64; 6]],
+    uc: &mut [usize],
+    ue: &mut [[i64; 101]],
+    st: &mut [i64],
+    si: &mut [i32],
+    sp: &mut [[f64; 6]],
+    sc: &mut [usize],
+    se: &mut [[i64; 101]],
+    fs: &mut [[i64; 6]],
+    fp: &mut [[f64; 18]],
+    b: Bar,
+) -> FeedAnswer
+    requires { ⌜ NewestAsked stand (storesOf (rawStore (now rt) (now ri) (now rp)) (mergedStore (now ut) (now ui) (now up) (now uc) (now ue)) (mergedStore (now st) (now si) (now sp) (now sc) (now se)) (fractalStore (now fs) (now fp))) ⌝ }
+    ensures { λ r. ⌜ FeedIs stand (storesOf (rawStore (now (rt .entry)) (now (ri .entry)) (now (rp .entry))) (mergedStore (now (ut .entry)) (now (ui .entry)) (now (up .entry)) (now (uc .entry)) (now (ue .entry))) (mergedStore (now (st .entry)) (now (si .entry)) (now (sp .entry)) (now (sc .entry)) (now (se .entry))) (fractalStore (now (fs .entry)) (now (fp .entry)))) b (r .failed) (r .made) (r .broken) (r .shed) (r .stand) (storesOf (rawStore (now (rt .exit)) (now (ri .exit)) (now (rp .exit))) (mergedStore (now (ut .exit)) (now (ui .exit)) (now (up .exit)) (now (uc .exit)) (now (ue .exit))) (mergedStore (now (st .exit)) (now (si .exit)) (now (sp .exit)) (now (sc .exit)) (now (se .exit))) (fractalStore (now (fs .exit)) (now (fp .exit)))) ⌝ }
+{
+    if sound::newest_is_last(stand, rt, uc, ue) {
+        return feed_sound(
+            stand,
+            rt,
+            ri,
+            rp,
+            ut,
+            ui,
+            up,
+            uc,
+            ue,
+            st,
+            si,
+            sp,
+            sc,
+            se,
+            fs,
+            fp,
+            b,
+        );
+    }
+    FeedAnswer {
+        stand,
+        failed: 4,
+        made: 0,
+        broken: 0,
+        shed: 0,
+    }
+}
+
+// The answer so far with that of one more bar.
+fn advance(r: BatchAnswer, a: FeedAnswer) -> BatchAnswer
+    requires { ⌜ CanAdvance r (a .failed) (a .made) (a .broken) (a .shed) ⌝ }
+    ensures { λ s. ⌜ s ≡ advanced (a .failed) r (a .made) (a .broken) (a .shed) (a .stand) ⌝ }
+{
+    if a.failed == 0 {
+        let stand = a.stand;
+        return BatchAnswer {
+            stand,
+            fed: r.fed + 1,
+            failed: 0,
+            made: r.made + a.made,
+            broken: r.broken + a.broken,
+            shed: r.shed + a.shed,
+        };
+    }
+    let stand = r.stand;
+    BatchAnswer {
+        stand,
+        fed: r.fed,
+        failed: a.failed,
+        made: r.made,
+        broken: r.broken,
+        shed: r.shed,
+    }
+}
+
+// The next bar.
+fn feed_next(
+    r: BatchAnswer,
+    rt: &mut [i64],
+    ri: &mut [i32],
+    rp: &mut [[f64; 6]],
+    ut: &mut [i64],
+    ui: &mut [i32],
+    up: &mut [[f64; 6]],
+    uc: &mut [usize],
+    ue: &mut [[i64; 101]],
+    st: &mut [i64],
+    si: &mut [i32],
+    sp: &mut [[f64; 6]],
+    sc: &mut [usize],
+    se: &mut [[i64; 101]],
+    fs: &mut [[i64; 6]],
+    fp: &mut [[f64; 18]],
+    bt: &[i64],
+    bi: &[i32],
+    bp: &[[f64; 6]],
+) -> BatchAnswer
+    requires { ⌜ CanNext r (storesOf (rawStore (now rt) (now ri) (now rp)) (mergedStore (now ut) (now ui) (now up) (now uc) (now ue)) (mergedStore (now st) (now si) (now sp) (now sc) (now se)) (fractalStore (now fs) (now fp))) (rawStore (now bt) (now bi) (now bp)) ⌝ }
+    ensures { λ s. ⌜ NextIs r (storesOf (rawStore (now (rt .entry)) (now (ri .entry)) (now (rp .entry))) (mergedStore (now (ut .entry)) (now (ui .entry)) (now (up .entry)) (now (uc .entry)) (now (ue .entry))) (mergedStore (now (st .entry)) (now (si .entry)) (now (sp .entry)) (now (sc .entry)) (now (se .entry))) (fractalStore (now (fs .entry)) (now (fp .entry)))) (barAt (rawStore (now (bt .entry)) (now (bi .entry)) (now (bp .entry))) (r .fed)) s (storesOf (rawStore (now (rt .exit)) (now (ri .exit)) (now (rp .exit))) (mergedStore (now (ut .exit)) (now (ui .exit)) (now (up .exit)) (now (uc .exit)) (now (ue .exit))) (mergedStore (now (st .exit)) (now (si .exit)) (now (sp .exit)) (now (sc .exit)) (now (se .exit))) (fractalStore (now (fs .exit)) (now (fp .exit)))) ⌝ }
+{
+    let at = r.fed;
+    let stand = r.stand;
+    let b = stores::read_bar(bt, bi, bp, at);
+    let a = feed_newest(
+        stand,
+        rt,
+        ri,
+        rp,
+        ut,
+        ui,
+        up,
+        uc,
+        ue,
+        st,
+        si,
+        sp,
+        sc,
+        se,
+        fs,
+        fp,
+        b,
+    );
+    advance(r, a)
+}
+
+// How many of n bars are to be fed yet.
+fn bars_left(r: BatchAnswer, n: usize) -> usize
+    ensures { λ k. ⌜ k ≡ leftOf (r .failed) n (r .fed) ⌝ }
+{
+    let fed = r.fed;
+    if r.failed == 0 {
+        if n <= fed {
+            return 0;
+        }
+        return n - fed;
+    }
+    0
+}
+
+// The bars one by one, from a fresh analyzer.
+fn feed_from(
+    stand: Stand,
+    rt: &mut [i64],
+    ri: &mut [i32],
+    rp: &mut [[f64; 6]],
+    ut: &mut [i64],
+    ui: &mut [i32],
+    up: &mut [[f64; 6]],
+    uc: &mut [usize],
+    ue: &mut [[i64; 101]],
+    st: &mut [i64],
+    si: &mut [i32],
+    sp: &mut [[f64; 6]],
+    sc: &mut [usize],
+    se: &mut [[i64; 101]],
+    fs: &mut [[i64; 6]],
+    fp: &mut [[f64; 18]],
+    bt: &[i64],
+    bi: &[i32],
+    bp: &[[f64; 6]],
+    n: usize,
+) -> BatchAnswer
+    requires { ⌜ CanBatch stand (storesOf (rawStore (now rt) (now ri) (now rp)) (mergedStore (now ut) (now ui) (now up) (now uc) (now ue)) (mergedStore (now st) (now si) (now sp) (now sc) (now se)) (fractalStore (now fs) (now fp))) (rawStore (now bt) (now bi) (now bp)) n ⌝ }
+    ensures { λ r. ⌜ BatchFed stand (storesOf (rawStore (now (rt .entry)) (now (ri .entry)) (now (rp .entry))) (mergedStore (now (ut .entry)) (now (ui .entry)) (now (up .entry)) (now (uc .entry)) (now (ue .entry))) (mergedStore (now (st .entry)) (now (si .entry)) (now (sp .entry)) (now (sc .entry)) (now (se .entry))) (fractalStore (now (fs .entry)) (now (fp .entry)))) (rawBars (rawStore (now (bt .entry)) (now (bi .entry)) (now (bp .entry)))) r (storesOf (rawStore (now (rt .exit)) (now (ri .exit)) (now (rp .exit))) (mergedStore (now (ut .exit)) (now (ui .exit)) (now (up .exit)) (now (uc .exit)) (now (ue .exit))) (mergedStore (now (st .exit)) (now (si .exit)) (now (sp .exit)) (now (sc .exit)) (now (se .exit))) (fractalStore (now (fs .exit)) (now (fp .exit)))) ⌝ }
+{
+    let mut r = BatchAnswer {
+        stand,
+        fed: 0,
+        failed: 0,
+        made: 0,
+        broken: 0,
+        shed: 0,
+    };
+    let mut left = n;
+    while 0 < left {
+        r = feed_next(
+            r,
+            rt,
+            ri,
+            rp,
+            ut,
+            ui,
+            up,
+            uc,
+            ue,
+            st,
+            si,
+            sp,
+            sc,
+            se,
+            fs,
+            fp,
+            bt,
+            bi,
+            bp,
+        );
+        left = bars_left(r, n);
+    }
+    r
+}
+
+fn fewer(a: usize, b: usize) -> usize
+    ensures { λ r. ⌜ r ≡ min a b ⌝ }
+{
+    if a < b {
+        return a;
+    }
+    b
+}
+
+// A fresh analyzer that is fed the bars in the columns bt, bi and bp, as many as the shortest of
+// these has, up to the first that is refused. Of question 4 it asks the lengths of the stores once,
+// and then for each bar the clause on the newest raw bar: the other clauses hold.
+pub fn feed_all(
+    minimum: usize,
+    most: usize,
+    rooms: Rooms,
+    rt: &mut [i64],
+    ri: &mut [i32],
+    rp: &mut [[f64; 6]],
+    ut: &mut [i64],
+    ui: &mut [i32],
+    up: &mut [[f64; 6]],
+    uc: &mut [usize],
+    ue: &mut [[i64; 101]],
+    st: &mut [i64],
+    si: &mut [i32],
+    sp: &mut [[f64; 6]],
+    sc: &mut [usize],
+    se: &mut [[i64; 101]],
+    fs: &mut [[i64; 6]],
+    fp: &mut [[f64; 18]],
+    bt: &[i64],
+    bi: &[i32],
+    bp: &[[f64; 6]],
+) -> BatchAnswer
+    ensures { λ r. ⌜ BatchIs minimum most rooms (storesOf (rawStore (now (rt .entry)) (now (ri .entry)) (now (rp .entry))) (mergedStore (now (ut .entry)) (now (ui .entry)) (now (up .entry)) (now (uc .entry)) (now (ue .entry))) (mergedStore (now (st .entry)) (now (si .entry)) (now (sp .entry)) (now (sc .entry)) (now (se .entry))) (fractalStore (now (fs .entry)) (now (fp .entry)))) (rawBars (rawStore (now (bt .entry)) (now (bi .entry)) (now (bp .entry)))) r (storesOf (rawStore (now (rt .exit)) (now (ri .exit)) (now (rp .exit))) (mergedStore (now (ut .exit)) (now (ui .exit)) (now (up .exit)) (now (uc .exit)) (now (ue .exit))) (mergedStore (now (st .exit)) (now (si .exit)) (now (sp .exit)) (now (sc .exit)) (now (se .exit))) (fractalStore (now (fs .exit)) (now (fp .exit)))) ⌝ }
+{
+    let a = sound::fresh(minimum, most, rooms);
+    let stand = a.stand;
+    let failed = a.refused;
+    if failed != 0 {
+        return BatchAnswer {
+            stand,
+            fed: 0,
+            failed,
+            made: 0,
+            broken: 0,
+            shed: 0,
+        };
+    }
+    let n = fewer(fewer(bt.len(), bi.len()), bp.len());
+    if n == 0 {
+        return BatchAnswer {
+            stand,
+            fed: 0,
+            failed: 0,
+            made: 0,
+            broken: 0,
+            shed: 0,
+        };
+    }
+    if sound::stores_sized(
+        stand,
+        rt,
+        ri,
+        rp,
+        ut,
+        ui,
+        up,
+        uc,
+        ue,
+        st,
+        si,
+        sp,
+        sc,
+        se,
+        fs,
+        fp,
+    ) {
+        return feed_from(
+            stand,
+            rt,
+            ri,
+            rp,
+            ut,
+            ui,
+            up,
+            uc,
+            ue,
+            st,
+            si,
+            sp,
+            sc,
+            se,
+            fs,
+            fp,
+            bt,
+            bi,
+            bp,
+            n,
+        );
+    }
+    BatchAnswer {
+        stand,
+        fed: 0,
+        failed: 4,
+        made: 0,
+        broken: 0,
+        shed: 0,
+    }
+}

@@ -1,0 +1,163 @@
+-- Demand 3 of the port: the claims of specs/PortClaims, from those of the plain machine. Assumes nothing.
+use Prim.Native.Nat.{ℕ, zero, suc, _+_}
+use mathlib.Core.Path.{_≡_, refl, ap, sym, _∙_, subst}
+use mathlib.Core.Bool.{Bool, true, false, _&&_}
+use mathlib.Core.List.{List, [], map}
+use mathlib.Core.Option.{none}
+use lib.ListN.{length, length-map}
+use lib.Dec.{T, leb·zero}
+use Rattle.bars.specs.declared.Bar.{Bar}
+use Rattle.bars.specs.Lists.{All, every, join}
+use Rattle.machine.specs.Stand.{Settings, State, fresh}
+use Rattle.machine.specs.Feed.{Events}
+use Rattle.machine.specs.Calls.{none-yet, run, start, calls, accepted, eachLater}
+use Rattle.machine.specs.KeptStrokes.{MeetAll}
+use Rattle.machine.specs.Reached.{Later}
+use Rattle.machine.proofs.ByPlace.{search-by-time}
+use Rattle.machine.proofs.ReachedSound.{reached-by-time}
+use Rattle.strokes.specs.declared.Rooms.{Rooms}
+use Rattle.strokes.specs.Stored.{Stores, settingsOf, stateOf, barCounts, total, storesSized, countsSized, elementsSized, sized, bareStroke, bareState}
+use Rattle.sound.specs.FreshStand.{orDefault, emptyStand, noStand, freshFailed, freshBy, freshOf}
+use Rattle.sound.proofs.FreshLaws.{fresh-state}
+use Rattle.zones.specs.Zones.{Zone, summary, getZsSeq}
+use Rattle.zones.specs.Claims.{kept, Inside}
+use Rattle.feed.specs.PortCalls.{acceptedOf, FreshCalls, begun}
+use Rattle.feed.specs.StrokesLeft.{Left}
+use Rattle.feed.specs.PortClaims.{keptOf, machineStrokes, bareEvents, PortDemand3}
+use Rattle.zones.proofs.Demand3.{demand3}
+use Rattle.feed.proofs.PortFollows.{FollowedAll, follows, Idle, idle, none-added}
+use Rattle.feed.proofs.StrokesLeftKept.{left-kept, left-counted, left-map, only-left}
+use Rattle.feed.proofs.PortAnswers.{zones-answered, zones-told, fakes-answered, fakes-told}
+use Rattle.feed.proofs.BareClaims.{summaries-bare, all-inside-bare, meet-all-bare}
+
+-- ---- a fresh stand holds nothing, so that its counts fit stores of any lengths
+
+empty-sized : (a b : ℕ) (rooms : Rooms) (m : Stores) → sized (emptyStand a b rooms) m ≡ storesSized (emptyStand a b rooms) m && true
+unfolding sized countsSized elementsSized emptyStand barCounts total every
+empty-sized a b rooms m = rw (leb·zero (rooms .raw), leb·zero (rooms .unfinished), leb·zero (rooms .strokes))
+
+by-failed : (n minimum most : ℕ) (rooms : Rooms) (m : Stores)
+    → sized ((freshBy n minimum most rooms) .stand) m ≡ storesSized ((freshBy n minimum most rooms) .stand) m && true
+unfolding freshBy noStand
+by-failed zero minimum most rooms m = empty-sized (orDefault minimum 6) (orDefault most 50) rooms m
+by-failed (suc n) minimum most rooms m = empty-sized 0 0 (record { raw = 0; unfinished = 0; strokes = 0 }) m
+
+fresh-sized : (r : FreshCalls) → sized (begun r) (r .lent) ≡ storesSized (begun r) (r .lent) && true
+unfolding freshOf
+fresh-sized r = by-failed (freshFailed (r .minimum) (r .most) (r .rooms)) (r .minimum) (r .most) (r .rooms) (r .lent)
+
+fresh-bare : bareState fresh ≡ fresh
+unfolding bareState fresh
+fresh-bare = refl
+
+-- ---- from a fresh analyzer
+
+abbrev settings : FreshCalls → Settings
+settings r = settingsOf (begun r)
+
+followed : (r : FreshCalls) → storesSized (begun r) (r .lent) ≡ true
+    → FollowedAll (settings r) fresh none-yet (r .bars) (r .sums) (acceptedOf (r .calls)) (r .stand) (r .stores)
+followed r h =
+    follows (r .calls) fresh none-yet (subst T (sym (fresh-sized r ∙ ap (λ (t : Bool). t && true) h)) tt)
+    (fresh-state (r .minimum) (r .most) (r .rooms) (r .lent) ∙ sym fresh-bare)
+
+machine : (r : FreshCalls) → storesSized (begun r) (r .lent) ≡ true → stateOf (r .stand) (r .stores) ≡ bareState ((calls (settings r) (r .bars)) .state)
+unfolding calls start
+machine r h = (followed r h) .state
+
+events : (r : FreshCalls) → storesSized (begun r) (r .lent) ≡ true → r .sums ≡ (calls (settings r) (r .bars)) .events
+unfolding calls start
+events r h = sym (none-added (r .sums)) ∙ (followed r h) .events
+
+unheard : (r : FreshCalls) → storesSized (begun r) (r .lent) ≡ false → Idle (r .calls)
+unheard r h = idle (r .calls) (fresh-sized r ∙ ap (λ (t : Bool). t && true) h)
+
+-- ---- the kept strokes are those of a list of the machine's calls
+
+record Like (r : FreshCalls) : Type 0 where
+  bars : List Bar
+  strokes : map bareStroke (kept (settings r) bars) ≡ keptOf r
+  sums : (calls (settings r) bars) .events ≡ r .sums
+  later : T (eachLater none (acceptedOf (r .calls))) → Later (settings r) bars
+
+like-machine : (r : FreshCalls) → storesSized (begun r) (r .lent) ≡ true → Like r
+unfolding kept keptOf bareState
+like-machine r h =
+    record {
+      bars = r .bars;
+      strokes = ap (λ (s : State). s .strokes) (sym (machine r h));
+      sums = sym (events r h);
+      later = λ l. subst (λ (z : List Bar). T (eachLater none z)) ((followed r h) .taken) l;
+    }
+
+-- with stores of other lengths, as if no bar had come
+like-none : (r : FreshCalls) → storesSized (begun r) (r .lent) ≡ false → Like r
+unfolding kept keptOf calls run start fresh accepted eachLater
+like-none r h =
+    let j = unheard r h in
+    record {
+      bars = [];
+      strokes = ap (λ (s : State). s .strokes) (sym ((λ i. stateOf (j .stand i) (j .stores i)) ∙ fresh-state (r .minimum) (r .most) (r .rooms) (r .lent)));
+      sums = sym (j .events);
+      later = λ l. tt;
+    }
+
+like-if : (r : FreshCalls) (t : Bool) → storesSized (begun r) (r .lent) ≡ t → Like r
+like-if r true h = like-machine r h
+like-if r false h = like-none r h
+
+like : (r : FreshCalls) → Like r
+like r = like-if r (storesSized (begun r) (r .lent)) refl
+
+-- ---- the claims
+
+sums : (r : FreshCalls) → r .sums .made ≡ length (keptOf r) + r .sums .broken + r .sums .shed
+sums r =
+    let k = like r in
+    let l = kept (settings r) (k .bars) in
+    let n : length l ≡ length (keptOf r) = sym (length-map l bareStroke) ∙ ap length (k .strokes) in
+    ap (λ (e : Events). e .made) (sym (k .sums))
+    ∙ demand3 .sums (settings r) (k .bars)
+    ∙ (λ i. n i + (k .sums i) .broken + (k .sums i) .shed)
+
+left : (r : FreshCalls) → storesSized (begun r) (r .lent) ≡ true → Left [] (map bareEvents (machineStrokes r)) (keptOf r)
+unfolding keptOf bareState bareEvents
+left r h = subst (Left [] (map bareEvents (machineStrokes r))) (ap (λ (s : State). s .strokes) (sym (machine r h))) (left-map bareStroke (left-kept (settings r) (r .bars)))
+
+zoned : (r : FreshCalls) → join (map (λ (z : Zone). z .strokes) (getZsSeq (map summary (keptOf r)))) ≡ map summary (keptOf r)
+zoned r =
+    let k = like r in
+    let l = kept (settings r) (k .bars) in
+    let e : map summary l ≡ map summary (keptOf r) = sym (summaries-bare l) ∙ ap (map summary) (k .strokes) in
+    subst (λ z. join (map (λ (y : Zone). y .strokes) (getZsSeq z)) ≡ z) e (demand3 .zoned (settings r) (k .bars))
+
+inside : (r : FreshCalls) → All Inside (keptOf r)
+inside r =
+    let k = like r in
+    subst (All Inside) (k .strokes) (all-inside-bare (kept (settings r) (k .bars)) (demand3 .inside (settings r) (k .bars)))
+
+meet : (r : FreshCalls) → T (eachLater none (acceptedOf (r .calls))) → MeetAll (keptOf r)
+meet r h =
+    let k = like r in
+    subst MeetAll (k .strokes) (meet-all-bare (kept (settings r) (k .bars)) (demand3 .meet (settings r) (k .bars) (k .later h)))
+
+pub port-demand3 : PortDemand3
+port-demand3 =
+    record {
+      machine = machine;
+      events = events;
+      by-time = search-by-time;
+      by-time-reached = reached-by-time;
+      idle = λ r h. ((unheard r h) .stand, (unheard r h) .stores, (unheard r h) .events);
+      sums = sums;
+      left = left;
+      left-only = λ r h l g. only-left g (left r h) refl;
+      left-counted = λ r h. events r h ∙ left-counted (settings r) (r .bars);
+      zoned = zoned;
+      inside = inside;
+      meet = meet;
+      zones-answered = zones-answered;
+      zones-told = zones-told;
+      fakes-answered = fakes-answered;
+      fakes-told = λ r. fakes-told r (inside r);
+    }

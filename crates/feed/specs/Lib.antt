@@ -1,0 +1,3 @@
+pub mod PortCalls
+pub mod StrokesLeft
+pub mod PortClaims

@@ -1,0 +1,186 @@
+// Feed: update_bar of the source. Every question is asked before anything is written, so that a refusal leaves every cell as it was.
+ghost use mathlib.Core.Path.{_≡_};
+ghost use Rattle.stores.specs.Stores.{rawStore, mergedStore};
+ghost use Rattle.strokes.specs.Stored.{fractalStore};
+ghost use Rattle.sound.specs.SoundStand.{storesOf};
+ghost use Rattle.sound.specs.Question4.{IsSound};
+ghost use Rattle.feed.specs.PortCalls.{FeedIs};
+ghost use Rattle.feed.specs.PortClaims.{PortDemand3};
+use bars::Bar;
+use strokes::Stand;
+
+// CZSC of the source: the stand by value, of which update_bar is a method. What it holds lies in lent stores.
+pub struct Czsc {
+    pub stand: Stand,
+}
+
+// What a feed answers: the number of the first question that was answered "no", or 0, then strokes made, broken and shed, each 0 or 1;
+// and the stand, handed back.
+pub struct FeedAnswer {
+    pub stand: Stand,
+    pub failed: u64,
+    pub made: u64,
+    pub broken: u64,
+    pub shed: u64,
+}
+
+fn refused(stand: Stand, failed: u64) -> FeedAnswer
+    ensures { λ r. ⌜ r ≡ record { stand = stand; failed = failed; made = 0; broken = 0; shed = 0 } ⌝ }
+{
+    FeedAnswer {
+        stand,
+        failed,
+        made: 0,
+        broken: 0,
+        shed: 0,
+    }
+}
+
+// The feed of a stand that question 4 has passed: questions 5 to 12, then the step.
+pub fn feed_sound(
+    stand: Stand,
+    rt: &mut [i64],
+    ri: &mut [i32],
+    rp: &mut [[f64; 6]],
+    ut: &mut [i64],
+    ui: &mut [i32],
+    up: &mut [[f64; 6]],
+    uc: &mut [usize],
+    ue: &mut [[i64; 101]],
+    st: &mut [i64],
+    si: &mut [i32],
+    sp: &mut [[f64; 6]],
+    sc: &mut [usize],
+    se: &mut [[i64; 101]],
+    fs: &mut [[i64; 6]],
+    fp: &mut [[f64; 18]],
+    b: Bar,
+) -> FeedAnswer
+    requires { ⌜ IsSound stand (storesOf (rawStore (now rt) (now ri) (now rp)) (mergedStore (now ut) (now ui) (now up) (now uc) (now ue)) (mergedStore (now st) (now si) (now sp) (now sc) (now se)) (fractalStore (now fs) (now fp))) ⌝ }
+    ensures { λ r. ⌜ FeedIs stand (storesOf (rawStore (now (rt .entry)) (now (ri .entry)) (now (rp .entry))) (mergedStore (now (ut .entry)) (now (ui .entry)) (now (up .entry)) (now (uc .entry)) (now (ue .entry))) (mergedStore (now (st .entry)) (now (si .entry)) (now (sp .entry)) (now (sc .entry)) (now (se .entry))) (fractalStore (now (fs .entry)) (now (fp .entry)))) b (r .failed) (r .made) (r .broken) (r .shed) (r .stand) (storesOf (rawStore (now (rt .exit)) (now (ri .exit)) (now (rp .exit))) (mergedStore (now (ut .exit)) (now (ui .exit)) (now (up .exit)) (now (uc .exit)) (now (ue .exit))) (mergedStore (now (st .exit)) (now (si .exit)) (now (sp .exit)) (now (sc .exit)) (now (se .exit))) (fractalStore (now (fs .exit)) (now (fp .exit)))) ⌝ }
+{
+    let asked = asking::ask(
+        stand,
+        rt,
+        ri,
+        rp,
+        ut,
+        ui,
+        up,
+        uc,
+        ue,
+        st,
+        si,
+        sp,
+        sc,
+        se,
+        fs,
+        fp,
+        b,
+    );
+    let failed = asked.failed;
+    if failed != 0 {
+        return refused(stand, failed);
+    }
+    let later = asked.later;
+    let plan = asked.plan;
+    let w = writing::write(
+        stand,
+        rt,
+        ri,
+        rp,
+        ut,
+        ui,
+        up,
+        uc,
+        ue,
+        st,
+        si,
+        sp,
+        sc,
+        se,
+        fs,
+        fp,
+        later,
+        plan,
+        b,
+    );
+    let kept = w.stand;
+    let made = w.made;
+    let broken = w.broken;
+    let shed = w.shed;
+    FeedAnswer {
+        stand: kept,
+        failed: 0,
+        made,
+        broken,
+        shed,
+    }
+}
+
+impl Czsc {
+    // A bar is fed. The contract says what each answer is, refusals too, and what every list of such calls from a fresh analyzer has: demand 3.
+    // The cells beyond the counts are free; the lengths of the stores are not.
+    pub fn update_bar(
+        self,
+        rt: &mut [i64],
+        ri: &mut [i32],
+        rp: &mut [[f64; 6]],
+        ut: &mut [i64],
+        ui: &mut [i32],
+        up: &mut [[f64; 6]],
+        uc: &mut [usize],
+        ue: &mut [[i64; 101]],
+        st: &mut [i64],
+        si: &mut [i32],
+        sp: &mut [[f64; 6]],
+        sc: &mut [usize],
+        se: &mut [[i64; 101]],
+        fs: &mut [[i64; 6]],
+        fp: &mut [[f64; 18]],
+        b: Bar,
+    ) -> FeedAnswer
+        ensures { λ r. ⌜ FeedIs (self .stand) (storesOf (rawStore (now (rt .entry)) (now (ri .entry)) (now (rp .entry))) (mergedStore (now (ut .entry)) (now (ui .entry)) (now (up .entry)) (now (uc .entry)) (now (ue .entry))) (mergedStore (now (st .entry)) (now (si .entry)) (now (sp .entry)) (now (sc .entry)) (now (se .entry))) (fractalStore (now (fs .entry)) (now (fp .entry)))) b (r .failed) (r .made) (r .broken) (r .shed) (r .stand) (storesOf (rawStore (now (rt .exit)) (now (ri .exit)) (now (rp .exit))) (mergedStore (now (ut .exit)) (now (ui .exit)) (now (up .exit)) (now (uc .exit)) (now (ue .exit))) (mergedStore (now (st .exit)) (now (si .exit)) (now (sp .exit)) (now (sc .exit)) (now (se .exit))) (fractalStore (now (fs .exit)) (now (fp .exit)))) × PortDemand3 ⌝ }
+    {
+        let stand = self.stand;
+        if sound::is_sound(
+            stand,
+            rt,
+            ri,
+            rp,
+            ut,
+            ui,
+            up,
+            uc,
+            ue,
+            st,
+            si,
+            sp,
+            sc,
+            se,
+            fs,
+            fp,
+        ) {
+            return feed_sound(
+                stand,
+                rt,
+                ri,
+                rp,
+                ut,
+                ui,
+                up,
+                uc,
+                ue,
+                st,
+                si,
+                sp,
+                sc,
+                se,
+                fs,
+                fp,
+                b,
+            );
+        }
+        refused(stand, 4)
+    }
+}

@@ -1,0 +1,6 @@
+// Feed: one bar at a time, with what every list of calls has. feed_sound is the step of a stand that question 4 has passed, for the batch call above.
+mod feed;
+
+pub use feed::Czsc;
+pub use feed::FeedAnswer;
+pub use feed::feed_sound;
