@@ -2,10 +2,10 @@
 use libc::STDOUT_FILENO;
 use lines::Bits;
 use lines::float_of;
-use lines::is;
-use lines::name_len;
+use lines::is_word;
 use lines::show;
 use lines::value_at;
+use lines::word_end;
 
 enum Kind {
     Round,
@@ -37,51 +37,51 @@ enum Values {
 }
 
 fn kind_of_one(word: &[u8]) -> Kind {
-    if is(word, b"round") {
+    if is_word(word, b"round") {
         return Kind::Round;
     }
-    if is(word, b"round2") {
+    if is_word(word, b"round2") {
         return Kind::Round2;
     }
-    if is(word, b"round3") {
+    if is_word(word, b"round3") {
         return Kind::Round3;
     }
-    if is(word, b"round4") {
+    if is_word(word, b"round4") {
         return Kind::Round4;
     }
-    if is(word, b"abs") {
+    if is_word(word, b"abs") {
         return Kind::Abs;
     }
     Kind::Unknown
 }
 
 fn kind_of_many(word: &[u8]) -> Kind {
-    if is(word, b"sum") {
+    if is_word(word, b"sum") {
         return Kind::Sum;
     }
-    if is(word, b"mean") {
+    if is_word(word, b"mean") {
         return Kind::Mean;
     }
-    if is(word, b"slope") {
+    if is_word(word, b"slope") {
         return Kind::Slope;
     }
-    if is(word, b"acceleration") {
+    if is_word(word, b"acceleration") {
         return Kind::Acceleration;
     }
-    if is(word, b"snr") {
+    if is_word(word, b"snr") {
         return Kind::Snr;
     }
     kind_of_one(word)
 }
 
 fn kind_of(word: &[u8]) -> Kind {
-    if is(word, b"places") {
+    if is_word(word, b"places") {
         return Kind::Places;
     }
-    if is(word, b"max") {
+    if is_word(word, b"max") {
         return Kind::Max;
     }
-    if is(word, b"min") {
+    if is_word(word, b"min") {
         return Kind::Min;
     }
     kind_of_many(word)
@@ -268,7 +268,7 @@ fn say(answer: Answer, number: u64) {
 
 // Writes the answer to the line with this number.
 pub fn reply(line: &[u8], number: u64) {
-    let n = name_len(line);
+    let n = word_end(line, 0);
     let kind = kind_of(&line[..n]);
     match kind {
         Kind::Unknown => say(Answer::Bad, number),

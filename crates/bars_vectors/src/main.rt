@@ -8,94 +8,30 @@
 // The questions were made by the oracle's driver, and the answers are those of the Rust.
 mod answers;
 
-use libc::STDIN_FILENO;
+use lines::Cursor;
 
-// What is known of the line that is being read: how many of its bytes are kept, and whether it had more.
-struct Line {
-    len: usize,
-    long: bool,
-}
-
-// The answer to a whole line.
-fn finish(text: &[u8], line: Line) {
-    let len = line.len;
-    if len == 0 {
+// Writes the answer to the line.
+fn answer(text: &[u8], cursor: Cursor) {
+    let n = lines::asked(text, cursor);
+    if n == 0 {
         return;
     }
-    if text.len() < len {
-        return;
-    }
-    if text[0] == b'#' {
-        return;
-    }
-    if line.long {
+    if cursor.long {
         answers::bad();
         return;
     }
-    answers::reply(&text[..len]);
+    answers::reply(&text[..n]);
 }
 
-fn take(text: &mut [u8], line: Line, b: u8) -> Line {
-    if b == b'\n' {
-        finish(text, line);
-        return Line {
-            len: 0,
-            long: false,
-        };
-    }
-    let len = line.len;
-    if len < text.len() {
-        text[len] = b;
-        return Line {
-            len: len + 1,
-            long: line.long,
-        };
-    }
-    Line { len, long: true }
-}
-
-fn take_all(text: &mut [u8], line: Line, bytes: &[u8]) -> Line {
-    let mut now = line;
-    let mut i: usize = 0;
-    while i < bytes.len() {
-        now = take(text, now, bytes[i]);
-        i += 1;
-    }
-    now
-}
-
-// What reading some more leaves: the line so far, and whether the input may go on.
-struct Step {
-    line: Line,
-    more: bool,
-}
-
-fn read_some(text: &mut [u8], line: Line) -> Step {
-    let mut bytes = io::large_buffer();
-    let n = io::read_full(STDIN_FILENO, &mut bytes);
-    if n == 0 {
-        return Step { line, more: false };
-    }
-    Step {
-        line: take_all(text, line, &bytes[..n]),
-        more: true,
-    }
-}
-
-// A proved loop has to end, and nothing says that the input does. So it counts down from a number that no run uses up.
 fn main() {
+    let mut bytes = io::large_buffer();
     let mut text = io::large_buffer();
-    let mut step = Step {
-        line: Line {
-            len: 0,
-            long: false,
-        },
-        more: true,
-    };
+    let mut cursor = lines::first_line();
+    // A proved loop has to end, and nothing says that the input does. So it counts down from a number that no run uses up.
     let mut turns = u64::MAX;
-    while turns > 0 && step.more {
-        step = read_some(&mut text, step.line);
+    while turns > 0 && cursor.open {
         turns -= 1;
+        cursor = lines::next_line(&mut bytes, &mut text, cursor);
+        answer(&text, cursor);
     }
-    finish(&text, step.line);
 }

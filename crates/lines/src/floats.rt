@@ -43,6 +43,22 @@ pub fn bits_of(text: &[u8]) -> Bits {
     Bits::Of(bits)
 }
 
+// The value at place `at`, with a space before it.
+pub fn value_at(line: &[u8], at: usize) -> Bits {
+    if line.len() < 17 {
+        return Bits::Bad;
+    }
+    if line.len() - 17 < at {
+        return Bits::Bad;
+    }
+    if line[at] != b' ' {
+        return Bits::Bad;
+    }
+    let a = at + 1;
+    let e = at + 17;
+    bits_of(&line[a..e])
+}
+
 // The float of a bit pattern: f64::from_bits, which is defined only off a NaN's pattern, and a NaN
 // of every pattern above the infinities'.
 pub fn float_of(bits: u64) -> f64

@@ -1,4 +1,6 @@
 // Lines from standard input, one at a time.
+ghost use Prim.Native.Nat.{_≤_};
+ghost use lib.ListN.{length};
 use libc::STDIN_FILENO;
 
 // Where the reading stands: the next byte and the number of bytes read into the buffer; of the line, how many bytes are kept and whether
@@ -75,4 +77,21 @@ pub fn next_line(bytes: &mut [u8], text: &mut [u8], c: Cursor) -> Cursor {
         turns -= 1;
     }
     now
+}
+
+// How many bytes of a line ask for an answer: none of an empty line and of one that starts with `#`.
+pub fn asked(text: &[u8], c: Cursor) -> usize
+    ensures { λ r. ⌜ r ≤ length (now (text .entry)) ⌝ }
+{
+    let len = c.len;
+    if len == 0 {
+        return 0;
+    }
+    if text.len() < len {
+        return 0;
+    }
+    if text[0] == b'#' {
+        return 0;
+    }
+    len
 }

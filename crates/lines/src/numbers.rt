@@ -1,6 +1,6 @@
-// Words of a line, and whole numbers as text.
-ghost use Prim.Native.Nat.{_≤_, _<_};
-ghost use lib.ListN.{length};
+// Whole numbers as text.
+ghost use Prim.Native.Nat.{_≤_};
+use crate::words::word_end;
 use libc::STDOUT_FILENO;
 
 pub enum Whole {
@@ -8,57 +8,31 @@ pub enum Whole {
     Bad,
 }
 
-// The place of the first space from `at` on, or the line's end.
-pub fn word_end(line: &[u8], at: usize) -> usize
-    ensures { λ r. ⌜ r ≤ length (now (line .entry)) ⌝ }
-{
-    if line.len() < at {
-        return line.len();
-    }
-    let mut i = at;
-    while i < line.len() {
-        if line[i] == b' ' {
-            return i;
-        }
-        i += 1;
-    }
-    i
+// A whole number and the place behind it.
+pub enum WholeAt {
+    Is(i64, usize),
+    Bad,
 }
 
-// Whether the two are the same bytes.
-pub fn is_word(word: &[u8], name: &[u8]) -> bool {
-    if word.len() != name.len() {
-        return false;
-    }
-    let mut i: usize = 0;
-    while i < name.len() {
-        if word[i] != name[i] {
-            return false;
-        }
-        i += 1;
-    }
-    true
-}
-
-// The digits from place `from` to the end, as a number. 18 digits at most, and 2^63 for anything else.
+// The digits from place `from` to the end, as a number of at most 2^63, and 2^63 + 1 for anything else.
 fn digits_of(text: &[u8], from: usize) -> u64
-    ensures { λ r. ⌜ r ≤ 9223372036854775808 ⌝ }
+    ensures { λ r. ⌜ r ≤ 9223372036854775809 ⌝ }
 {
     if text.len() <= from {
-        return 9223372036854775808;
+        return 9223372036854775809;
     }
     let mut n: u64 = 0;
     let mut i = from;
     while i < text.len() {
         let b = text[i];
         if b < 48 {
-            return 9223372036854775808;
+            return 9223372036854775809;
         }
         if 57 < b {
-            return 9223372036854775808;
+            return 9223372036854775809;
         }
-        if 99999999999999999 < n {
-            return 9223372036854775808;
+        if 922337203685477580 < n {
+            return 9223372036854775809;
         }
         n = n * 10 + (b as u64 - 48);
         i += 1;
@@ -73,16 +47,38 @@ pub fn whole_of(text: &[u8]) -> Whole {
     }
     if text[0] == b'-' {
         let n = digits_of(text, 1);
-        if n == 9223372036854775808 {
+        if 9223372036854775808 < n {
             return Whole::Bad;
+        }
+        if n == 9223372036854775808 {
+            return Whole::Of(-9223372036854775808);
         }
         return Whole::Of(-(n as i64));
     }
     let n = digits_of(text, 0);
-    if n == 9223372036854775808 {
+    if 9223372036854775807 < n {
         return Whole::Bad;
     }
     Whole::Of(n as i64)
+}
+
+// The whole number at place `at`, with a space before it.
+pub fn whole_at(line: &[u8], at: usize) -> WholeAt {
+    if line.len() <= at {
+        return WholeAt::Bad;
+    }
+    if line[at] != b' ' {
+        return WholeAt::Bad;
+    }
+    let a = at + 1;
+    let end = word_end(line, a);
+    if end <= a {
+        return WholeAt::Bad;
+    }
+    let Whole::Of(n) = whole_of(&line[a..end]) else {
+        return WholeAt::Bad;
+    };
+    WholeAt::Is(n, end)
 }
 
 // Writes a whole number. The one with no counterpart above zero is written as it is.

@@ -5,10 +5,10 @@ use crate::items::ReadStroke;
 use crate::items::fractal_at;
 use crate::items::stroke_at;
 use libc::STDOUT_FILENO;
-use lines::is;
-use lines::name_len;
+use lines::is_word;
 use lines::show;
-use lines::show_whole;
+use lines::word_end;
+use lines::write_whole;
 use machine::Direction;
 use zones::FakeStroke;
 use zones::GrowingRun;
@@ -40,7 +40,7 @@ fn say_float(x: f64) {
 }
 
 fn say_time(t: i64) {
-    show_whole(t);
+    write_whole(t);
     say(b" ");
 }
 
@@ -218,13 +218,13 @@ fn fake_of(line: &[u8], from: usize) -> bool {
 }
 
 fn answer(line: &[u8], n: usize, name: &[u8]) -> bool {
-    if is(name, b"zones") {
+    if is_word(name, b"zones") {
         return zones_of(line, n);
     }
-    if is(name, b"bis") {
+    if is_word(name, b"bis") {
         return bis_of(line, n);
     }
-    if is(name, b"fake") {
+    if is_word(name, b"fake") {
         return fake_of(line, n);
     }
     false
@@ -232,7 +232,7 @@ fn answer(line: &[u8], n: usize, name: &[u8]) -> bool {
 
 // Writes the answer to the line with this number.
 pub fn reply(line: &[u8], number: u64) {
-    let n = name_len(line);
+    let n = word_end(line, 0);
     if answer(line, n, &line[..n]) {
         say(b"\n");
         return;

@@ -17,105 +17,31 @@
 mod answers;
 mod items;
 
-use libc::STDIN_FILENO;
 use libc::STDOUT_FILENO;
+use lines::Cursor;
 
-// What is known of the line that is being read: how many of its bytes are kept, whether it had
-// more, and its number.
-struct Line {
-    len: usize,
-    long: bool,
-    number: u64,
-}
-
-// The answer to a whole line. What an empty line or a comment says is nothing.
-fn finish(text: &[u8], line: Line) {
-    let len = line.len;
-    if len == 0 {
+// Writes the answer to the line with this number.
+fn answer(text: &[u8], cursor: Cursor, number: u64) {
+    let n = lines::asked(text, cursor);
+    if n == 0 {
         return;
     }
-    if text.len() < len {
-        return;
-    }
-    if text[0] == b'#' {
-        return;
-    }
-    if line.long {
+    if cursor.long {
         io::write_all(STDOUT_FILENO, b"too long\n");
         return;
     }
-    answers::reply(&text[..len], line.number);
+    answers::reply(&text[..n], number);
 }
 
-fn take(text: &mut [u8], line: Line, b: u8) -> Line {
-    if b == b'\n' {
-        finish(text, line);
-        return Line {
-            len: 0,
-            long: false,
-            number: std::num::wrapping_add_u64(line.number, 1),
-        };
-    }
-    let len = line.len;
-    if len < text.len() {
-        text[len] = b;
-        return Line {
-            len: len + 1,
-            long: line.long,
-            number: line.number,
-        };
-    }
-    Line {
-        len,
-        long: true,
-        number: line.number,
-    }
-}
-
-fn take_all(text: &mut [u8], line: Line, bytes: &[u8]) -> Line {
-    let mut now = line;
-    let mut i: usize = 0;
-    while i < bytes.len() {
-        now = take(text, now, bytes[i]);
-        i += 1;
-    }
-    now
-}
-
-// What reading some more leaves: the line so far, and whether the input may go on.
-struct Step {
-    line: Line,
-    more: bool,
-}
-
-fn read_some(text: &mut [u8], line: Line) -> Step {
-    let mut bytes = io::large_buffer();
-    let n = io::read_full(STDIN_FILENO, &mut bytes);
-    if n == 0 {
-        return Step { line, more: false };
-    }
-    Step {
-        line: take_all(text, line, &bytes[..n]),
-        more: true,
-    }
-}
-
-// A proved loop has to end, and nothing says that the input does. So it counts down from a number
-// that no run uses up.
 fn main() {
+    let mut bytes = io::large_buffer();
     let mut text = io::large_buffer();
-    let mut step = Step {
-        line: Line {
-            len: 0,
-            long: false,
-            number: 1,
-        },
-        more: true,
-    };
-    let mut turns = u64::MAX;
-    while turns > 0 && step.more {
-        step = read_some(&mut text, step.line);
-        turns -= 1;
+    let mut cursor = lines::first_line();
+    // A proved loop has to end, and nothing says that the input does. So it counts the lines, up to a number that no run reaches.
+    let mut number: u64 = 0;
+    while number < u64::MAX && cursor.open {
+        number += 1;
+        cursor = lines::next_line(&mut bytes, &mut text, cursor);
+        answer(&text, cursor, number);
     }
-    finish(&text, step.line);
 }

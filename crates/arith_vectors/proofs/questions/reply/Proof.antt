@@ -4,8 +4,8 @@ use borrow.Author.Needs.{needs}
 use Rattle.arith_vectors.proofs.questions.reply.Statement.{statement}
 use Rattle.arith_vectors.proofs.questions.reply.Tie as tie
 
-name-len-requires : tie.Need-name-len-requires
-name-len-requires c κs = search needs
+word-end-requires : tie.Need-word-end-requires
+word-end-requires c κs = search needs
 
 slice-aggregate-kind-of : tie.Need-slice-aggregate-kind-of
 slice-aggregate-kind-of c = sym (length-take-le _ _ (search needs))
@@ -47,7 +47,7 @@ pub reply-spec : {M : Type 1} → statement M
 reply-spec =
     tie.close
     (tie.spec
-    name-len-requires
+    word-end-requires
     slice-aggregate-kind-of
     kind-of-requires
     enum-told

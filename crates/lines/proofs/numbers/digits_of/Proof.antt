@@ -1,11 +1,11 @@
-use Prim.Native.Nat.{_-_, _≤_, _<_}
+use Prim.Native.Nat.{_-_, _≤_}
 use lib.ListN.{length}
 use borrow.Author.Needs.{needs}
 use Rattle.lines.proofs.numbers.digits_of.Statement.{statement}
 use Rattle.lines.proofs.numbers.digits_of.Tie as tie
 
 abbrev Inv-loop : tie.InvT-loop
-Inv-loop text from n₀ i₀ n i = (i ≤ length text) × (n < 1000000000000000000)
+Inv-loop text from n₀ i₀ n i = (i ≤ length text) × (n ≤ 9223372036854775809)
 
 abbrev μ-loop : tie.MeasureT-loop
 μ-loop text from n₀ i₀ n i = length text - i

@@ -24,10 +24,13 @@ cast-t9 : tie.Need-cast-t9
 cast-t9 c = search needs
 
 sub-t10 : tie.Need-sub-t10
-sub-t10 c = let n = c .before .digits-of .result in let h : n < 9223372036854775808 = omega arith in rw (toZ-ofZ w64 (pos n) (record { sfits = h })) (minus-whole n h)
+sub-t10 c = let n = c .before .before .digits-of .result in let h : n < 9223372036854775808 = omega arith in rw (toZ-ofZ w64 (pos n) (record { sfits = h })) (minus-whole n h)
 
 returns-3 : tie.Need-returns-3
 returns-3 c = search needs
+
+returns-6 : tie.Need-returns-6
+returns-6 c = search needs
 
 digits-of-requires-2 : tie.Need-digits-of-requires-2
 digits-of-requires-2 c κs = search needs
@@ -49,10 +52,11 @@ whole-of-spec =
     shared-slice-read-if2
     digits-of-requires
     returns-2
+    returns-3
     cast-t9
     sub-t10
-    returns-3
-    digits-of-requires-2
     returns-4
+    digits-of-requires-2
+    returns-5
     cast-t11
-    returns-5)
+    returns-6)

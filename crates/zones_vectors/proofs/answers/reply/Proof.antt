@@ -4,8 +4,8 @@ use borrow.Author.Needs.{needs}
 use Rattle.zones_vectors.proofs.answers.reply.Statement.{statement}
 use Rattle.zones_vectors.proofs.answers.reply.Tie as tie
 
-name-len-requires : tie.Need-name-len-requires
-name-len-requires c κs = search needs
+word-end-requires : tie.Need-word-end-requires
+word-end-requires c κs = search needs
 
 slice-aggregate-answer : tie.Need-slice-aggregate-answer
 slice-aggregate-answer c = sym (length-take-le _ _ (search needs))
@@ -44,7 +44,7 @@ pub reply-spec : {M : Type 1} → statement M
 reply-spec =
     tie.close
     (tie.spec
-    name-len-requires
+    word-end-requires
     slice-aggregate-answer
     answer-requires
     slice-aggregate-say

@@ -1,0 +1,217 @@
+use mathlib.Core.Path.{refl}
+use borrow.Author.Needs.{needs}
+use Rattle.replay.proofs.calls.play.Statement.{statement}
+use Rattle.replay.proofs.calls.play.Tie as tie
+
+update-bar-requires : tie.Need-update-bar-requires
+update-bar-requires c κs = search needs
+
+fed-requires : tie.Need-fed-requires
+fed-requires c κs = search needs
+
+same-length : tie.Need-same-length
+same-length c = c .before .before .before .before .before .before .before .before .before .before .before .before .before .before .before .before .before .rt .given
+
+same-length-2 : tie.Need-same-length-2
+same-length-2 c = c .before .before .before .before .before .before .before .before .before .before .before .before .before .before .before .before .ri .given
+
+same-length-3 : tie.Need-same-length-3
+same-length-3 c = c .before .before .before .before .before .before .before .before .before .before .before .before .before .before .before .rp .given
+
+same-length-4 : tie.Need-same-length-4
+same-length-4 c = c .before .before .before .before .before .before .before .before .before .before .before .before .before .before .ut .given
+
+same-length-5 : tie.Need-same-length-5
+same-length-5 c = c .before .before .before .before .before .before .before .before .before .before .before .before .before .ui .given
+
+same-length-6 : tie.Need-same-length-6
+same-length-6 c = c .before .before .before .before .before .before .before .before .before .before .before .before .up .given
+
+same-length-7 : tie.Need-same-length-7
+same-length-7 c = c .before .before .before .before .before .before .before .before .before .before .before .uc .given
+
+same-length-8 : tie.Need-same-length-8
+same-length-8 c = c .before .before .before .before .before .before .before .before .before .ue .given
+
+same-length-9 : tie.Need-same-length-9
+same-length-9 c = c .before .before .before .before .before .before .before .before .st .given
+
+same-length-10 : tie.Need-same-length-10
+same-length-10 c = c .before .before .before .before .before .before .before .si .given
+
+same-length-11 : tie.Need-same-length-11
+same-length-11 c = c .before .before .before .before .before .before .sp .given
+
+same-length-12 : tie.Need-same-length-12
+same-length-12 c = c .before .before .before .before .before .sc .given
+
+same-length-13 : tie.Need-same-length-13
+same-length-13 c = c .before .before .before .se .given
+
+same-length-14 : tie.Need-same-length-14
+same-length-14 c = c .before .before .fs .given
+
+same-length-15 : tie.Need-same-length-15
+same-length-15 c = c .before .fp .given
+
+returns : tie.Need-returns
+returns c = search needs
+
+stand-lines-requires : tie.Need-stand-lines-requires
+stand-lines-requires c κs = search needs
+
+same-length-16 : tie.Need-same-length-16
+same-length-16 c = refl
+
+same-length-17 : tie.Need-same-length-17
+same-length-17 c = refl
+
+same-length-18 : tie.Need-same-length-18
+same-length-18 c = refl
+
+same-length-19 : tie.Need-same-length-19
+same-length-19 c = refl
+
+same-length-20 : tie.Need-same-length-20
+same-length-20 c = refl
+
+same-length-21 : tie.Need-same-length-21
+same-length-21 c = refl
+
+same-length-22 : tie.Need-same-length-22
+same-length-22 c = refl
+
+same-length-23 : tie.Need-same-length-23
+same-length-23 c = refl
+
+same-length-24 : tie.Need-same-length-24
+same-length-24 c = refl
+
+same-length-25 : tie.Need-same-length-25
+same-length-25 c = refl
+
+same-length-26 : tie.Need-same-length-26
+same-length-26 c = refl
+
+same-length-27 : tie.Need-same-length-27
+same-length-27 c = refl
+
+same-length-28 : tie.Need-same-length-28
+same-length-28 c = refl
+
+same-length-29 : tie.Need-same-length-29
+same-length-29 c = refl
+
+same-length-30 : tie.Need-same-length-30
+same-length-30 c = refl
+
+returns-2 : tie.Need-returns-2
+returns-2 c = search needs
+
+report-requires : tie.Need-report-requires
+report-requires c κs = search needs
+
+same-length-31 : tie.Need-same-length-31
+same-length-31 c = refl
+
+same-length-32 : tie.Need-same-length-32
+same-length-32 c = refl
+
+same-length-33 : tie.Need-same-length-33
+same-length-33 c = refl
+
+same-length-34 : tie.Need-same-length-34
+same-length-34 c = refl
+
+same-length-35 : tie.Need-same-length-35
+same-length-35 c = refl
+
+same-length-36 : tie.Need-same-length-36
+same-length-36 c = refl
+
+same-length-37 : tie.Need-same-length-37
+same-length-37 c = refl
+
+same-length-38 : tie.Need-same-length-38
+same-length-38 c = refl
+
+same-length-39 : tie.Need-same-length-39
+same-length-39 c = refl
+
+same-length-40 : tie.Need-same-length-40
+same-length-40 c = refl
+
+same-length-41 : tie.Need-same-length-41
+same-length-41 c = refl
+
+same-length-42 : tie.Need-same-length-42
+same-length-42 c = refl
+
+same-length-43 : tie.Need-same-length-43
+same-length-43 c = refl
+
+same-length-44 : tie.Need-same-length-44
+same-length-44 c = refl
+
+same-length-45 : tie.Need-same-length-45
+same-length-45 c = refl
+
+returns-3 : tie.Need-returns-3
+returns-3 c = search needs
+
+pub play-spec : {M : Type 1} → statement M
+play-spec =
+    tie.close
+    (tie.spec
+    update-bar-requires
+    fed-requires
+    same-length
+    same-length-2
+    same-length-3
+    same-length-4
+    same-length-5
+    same-length-6
+    same-length-7
+    same-length-8
+    same-length-9
+    same-length-10
+    same-length-11
+    same-length-12
+    same-length-13
+    same-length-14
+    same-length-15
+    returns
+    stand-lines-requires
+    same-length-16
+    same-length-17
+    same-length-18
+    same-length-19
+    same-length-20
+    same-length-21
+    same-length-22
+    same-length-23
+    same-length-24
+    same-length-25
+    same-length-26
+    same-length-27
+    same-length-28
+    same-length-29
+    same-length-30
+    returns-2
+    report-requires
+    same-length-31
+    same-length-32
+    same-length-33
+    same-length-34
+    same-length-35
+    same-length-36
+    same-length-37
+    same-length-38
+    same-length-39
+    same-length-40
+    same-length-41
+    same-length-42
+    same-length-43
+    same-length-44
+    same-length-45
+    returns-3)

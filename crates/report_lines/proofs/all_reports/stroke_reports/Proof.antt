@@ -1,0 +1,49 @@
+use Prim.Native.Nat.{_≤_, _-_}
+use borrow.Author.Needs.{needs}
+use Rattle.report_lines.proofs.all_reports.stroke_reports.Statement.{statement}
+use Rattle.report_lines.proofs.all_reports.stroke_reports.Tie as tie
+
+abbrev Inv-loop : tie.InvT-loop
+Inv-loop stand rt ri rp ut ui up uc ue st si sp sc se fs fp n i₀ i = i ≤ 65
+
+abbrev μ-loop : tie.MeasureT-loop
+μ-loop stand rt ri rp ut ui up uc ue st si sp sc se fs fp n i₀ i = 65 - i
+
+loop-holds : tie.Need-loop-holds Inv-loop μ-loop
+loop-holds c = search needs
+
+returns : tie.Need-returns Inv-loop μ-loop
+returns c = search needs
+
+measure-requires : tie.Need-measure-requires Inv-loop μ-loop
+measure-requires c κs = search needs
+
+fakes-requires : tie.Need-fakes-requires Inv-loop μ-loop
+fakes-requires c κs = search needs
+
+add-i : tie.Need-add-i Inv-loop μ-loop
+add-i c = search needs
+
+loop-less : tie.Need-loop-less Inv-loop μ-loop
+loop-less c = search needs
+
+loop-again : tie.Need-loop-again Inv-loop μ-loop
+loop-again c = search needs
+
+returns-2 : tie.Need-returns-2 Inv-loop μ-loop
+returns-2 c = search needs
+
+pub stroke-reports-spec : {M : Type 1} → statement M
+stroke-reports-spec =
+    tie.close
+    (tie.spec
+    Inv-loop
+    μ-loop
+    loop-holds
+    returns
+    measure-requires
+    fakes-requires
+    add-i
+    loop-less
+    loop-again
+    returns-2)
