@@ -1,10 +1,12 @@
-"""Asking the driver from a script: lines in, answers out; and bars written as high/low."""
+"""Asking the driver, or another program, from a script: lines in, answers out; and bars written as high/low."""
 import os
 import subprocess
 
 from seeded import bits
 
-RUN = os.path.join(os.path.dirname(os.path.abspath(__file__)), "run")
+HERE = os.path.dirname(os.path.abspath(__file__))
+RUN, MODEL, GENERATE = (os.path.join(HERE, name) for name in ("run", "model", "generate"))
+NO_ROOM = (["no 10"], ["no 11"], ["no 12"])
 
 
 def ask(lines, *options):
@@ -14,6 +16,38 @@ def ask(lines, *options):
     if done.returncode != 0:
         raise SystemExit(done.stderr)
     return done.stdout.splitlines()
+
+
+def blocks(program, calls):
+    """One answer a call of the replay format; the lines of a stand or of reports stay together. Behind what a program that
+    failed wrote stands that it left; what it did not answer is empty."""
+    text = "".join(call + "\n" for call in calls)
+    done = subprocess.run(program, input=text, stdout=subprocess.PIPE, stderr=subprocess.DEVNULL, text=True, errors="replace")
+    lines = done.stdout.splitlines() + ([f"left with {done.returncode}"] if done.returncode else [])
+    answers, at = [], 0
+    for call in calls:
+        last = at
+        if call in ("d", "r") and at < len(lines) and not lines[at].startswith(("no", "panic", "bad")):
+            while last < len(lines) - 1 and lines[last] != "end":
+                last += 1
+        answers.append(lines[at:last + 1])
+        at = last + 1
+    if at < len(lines):
+        answers[-1] += lines[at:]
+    return answers
+
+
+def beside(ours, theirs):
+    """Holds two programs side by side: gives, for a list of calls, each call's place, the call and both answers."""
+    return lambda calls: list(zip(range(len(calls)), calls, blocks(ours, calls), blocks(theirs, calls)))
+
+
+def both(calls):
+    """The same for the model and the Rust, over the calls that the model has room for. The Rust has no stores, and a bar
+    that was turned down leaves no trace: so it is asked the others only."""
+    roomy = [(n, call, ours) for n, (call, ours) in enumerate(zip(calls, blocks([MODEL], calls))) if ours not in NO_ROOM]
+    rust = blocks([RUN, "--ask-4"], [call for _, call, _ in roomy])
+    return [(*item, theirs) for item, theirs in zip(roomy, rust)]
 
 
 def bar(time, high, low, open_=None, close=None, vol=1.0, amount=1.0, id_=None):
