@@ -10,6 +10,7 @@ use lib.Dec.{T, ltb, leb, eqb, ltb→lt, lt→ltb, leb→le, eqb→eq, eqb·suc-
 use lib.Pow.{pow-add, pow-pos, pow-lt}
 use lib.Ieee.{Float, nan, inf, fin, Format, prec, emax, low, up, down, odd, units, round, sum, add, sub, mul, div, neg, unlike, fits}
 use lib.Ieee.Fits.{up-pos, down-pos, and-l, and-r, round-is}
+use Rattle.arith.proofs.Tests.{same}
 use lib.Ieee.Exact.{HasValue, round-exact}
 use lib.Ieee.Scale.{round-same}
 
@@ -18,17 +19,11 @@ double a = omega arith
 
 -- ---- a sum, by any two fractions with one denominator that its terms equal
 
-same-bool : (p q : Bool) → (T p → T q) → (T q → T p) → p ≡ q
-same-bool true true f g = refl
-same-bool true false f g = absurd (f tt)
-same-bool false true f g = absurd (g tt)
-same-bool false false f g = refl
-
 -- A / D = a / c and B / D = b / c
 module _ (A B D a b c : ℕ) (D+ : 0 < D) (c+ : 0 < c) (p : A * c ≡ a * D) (q : B * c ≡ b * D) where
   same-lt : ltb A B ≡ ltb a b
   same-lt =
-      same-bool (ltb A B) (ltb a b)
+      same (ltb A B) (ltb a b)
       (λ t. lt→ltb a b (lt-of-mul-lt-mul-right D (subst (λ (z : ℕ). z < b * D) p (subst (λ (z : ℕ). A * c < z) q (mul-lt-mul-of-pos-right (ltb→lt A B t) c+)))))
       (λ t. lt→ltb A B (lt-of-mul-lt-mul-right c (subst (λ (z : ℕ). z < B * c) (sym p) (subst (λ (z : ℕ). a * D < z) (sym q) (mul-lt-mul-of-pos-right (ltb→lt a b t) D+)))))
 

@@ -1,3 +1,4 @@
+pub mod Tests
 pub mod FloatOrder
 pub mod MaxMin
 pub mod FromZero

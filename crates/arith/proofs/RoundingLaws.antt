@@ -15,6 +15,7 @@ use lib.Ieee.Back.{whole-unique, round-whole}
 use Rattle.arith.specs.Rounding.{halfUp, roundAway, tenTo}
 use Rattle.arith.proofs.FloatOrder.{lt-or-ge}
 use Rattle.arith.proofs.FloatValues.{double, fine, round-own, zero-exp}
+use Rattle.arith.proofs.SumLaws.{round-zero}
 
 twice-pos : (c : ℕ) → 0 < c → 0 < 2 * c
 twice-pos c p = omega arith
@@ -35,10 +36,6 @@ upward s m k p t =
   where
     odd-half : (a : ℕ) → (2 * a + 1) / 2 ≡ a
     odd-half a = omega arith
-
-round-zero : (s : Bool) → round binary64 s 0 1 ≡ fin s 0 (pos 0)
-unfolding round
-round-zero s = refl
 
 -- both zeros stay
 pub zero-stays : (s : Bool) (e : ℤ) → T (fits binary64 (fin s zero e)) → roundAway (fin s zero e) ≡ fin s zero e

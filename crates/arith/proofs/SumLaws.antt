@@ -27,7 +27,7 @@ use Rattle.arith.specs.declared.sums.FitSums.{FitSums}
 use Rattle.arith.specs.declared.sums.SnrSums.{SnrSums}
 use Rattle.arith.specs.Sums.{zeroF, minusZero, oneF, twoF, threeF, plus, over, sumOf, sumFromZero, countFrom, countOf, termsFrom, terms, quotient, meanOf}
 use Rattle.arith.specs.Sums.{middle, cross, square, slopeOf, x4Of, x3Of, x2Of, x1Of, x2yOf, xyOf, yOf, fitSums, fitOf, accelerationOf, changeOf, lastFrom, snrOf, pairs}
-use Rattle.arith.specs.Sums.{meanStart, meanMore, meanEnd, slopeStart, slopeMore, slopeEnd, slopeEndIf, fitStart, fitMore, fitEnd, fitEndIf, snrStart, snrMore, snrMoreIf, snrEnd, snrEndIf}
+use Rattle.arith.specs.Code.Accumulators.{meanStart, meanMore, meanEnd, slopeStart, slopeMore, slopeEnd, slopeEndIf, fitStart, fitMore, fitEnd, fitEndIf, snrStart, snrMore, snrMoreIf, snrEnd, snrEndIf}
 
 -- ---- -0.0 is where a sum from its first term may start
 
@@ -48,7 +48,7 @@ value-unique f (fin t n d) s m e p q v =
     ap (λ (u : Bool). toBits f (fin u n d)) (v .0) ∙ bits-same f s n m d e (div-same (n * up d * l) (down d) (m * up e * l) (down e) (down-pos d) (down-pos e) h) in
     sym (ofBits-toBits f (fin t n d) p) ∙ ap (ofBits f) b ∙ ofBits-toBits f (fin s m e) q
 
-round-zero : (s : Bool) → round binary64 s 0 1 ≡ fin s 0 (pos 0)
+pub round-zero : (s : Bool) → round binary64 s 0 1 ≡ fin s 0 (pos 0)
 unfolding round
 round-zero s = refl
 

@@ -3,3 +3,4 @@ pub mod Rounding
 pub mod Cases
 pub mod Sums
 pub mod SumCases
+pub mod Code

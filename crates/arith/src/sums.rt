@@ -8,9 +8,8 @@
 ghost use mathlib.Core.Path.{_≡_};
 ghost use Prim.Native.Nat.{min};
 ghost use mathlib.Core.List.{foldl};
-ghost use Rattle.arith.specs.Sums.{meanStart, meanMore, meanEnd, slopeStart, slopeMore, slopeEnd};
-ghost use Rattle.arith.specs.Sums.{fitStart, fitMore, detWith, fitOf, fitEnd, snrStart, snrMore, snrEnd, changeOf, quotient};
-ghost use Rattle.arith.specs.Sums.{sumOf, meanOf, slopeOf, accelerationOf, snrOf, pairs};
+ghost use Rattle.arith.specs.Sums.{detWith, fitOf, changeOf, quotient, sumOf, meanOf, slopeOf, accelerationOf, snrOf, pairs};
+ghost use Rattle.arith.specs.Code.Accumulators.{meanStart, meanMore, meanEnd, slopeStart, slopeMore, slopeEnd, fitStart, fitMore, fitEnd, snrStart, snrMore, snrEnd};
 use crate::order::abs;
 
 // How many values, and their sum from the first term on.

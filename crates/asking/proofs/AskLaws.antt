@@ -14,7 +14,8 @@ use Rattle.bars.specs.declared.Bar.{Bar}
 use Rattle.bars.specs.Bars.{Merged}
 use Rattle.bars.specs.Lists.{last}
 use Rattle.bars.specs.Questions.{question9, notEarlier, firstFailed, firstFailedAfter}
-use Rattle.stores.specs.Stores.{RawStore, MergedStore, SizedRaw, rawPart, zipWith, barOf, rawBars, mergedBars, barAt}
+use Rattle.stores.specs.Stores.{RawStore, MergedStore, rawPart, zipWith, barOf, rawBars, mergedBars}
+use Rattle.stores.specs.Code.StoreRows.{SizedRaw, barAt}
 use Rattle.stores.proofs.Columns.{raw-length, raw-at}
 use Rattle.machine.specs.declared.Mark.{Mark}
 use Rattle.machine.specs.declared.Mark.the-variants.{D, G}
@@ -24,18 +25,18 @@ use Rattle.machine.specs.Feed.{isLater}
 use Rattle.machine.specs.FeedQuestions.{fewerIf, orElse, firstOf}
 use Rattle.strokes.specs.declared.Stand.{Stand}
 use Rattle.strokes.specs.declared.strokes_store.LastStroke.{LastStroke}
-use Rattle.strokes.specs.StrokeStore.{lastRead, lastBars, LastStands}
+use Rattle.strokes.specs.Code.StrokeSteps.{lastRead, lastBars, LastStands}
 use Rattle.strokes.proofs.StoredRaw.{last-take}
-use Rattle.check_bi.specs.declared.scan.Candle.{Candle}
-use Rattle.check_bi.specs.Scan.{candleOf}
-use Rattle.check_bi.specs.View.{view, candleFrom, candles}
+use Rattle.check_bi.specs.declared.check_fx.Candle.{Candle}
+use Rattle.check_bi.specs.Code.Scan.{candleOf}
+use Rattle.check_bi.specs.Code.View.{view, candleFrom, candles}
 use Rattle.check_bi.proofs.ScanViews.{length-view, candles-view, view-map}
 use Rattle.asking.specs.declared.plan.Last.{Last}
 use Rattle.asking.specs.declared.plan.Plan.{Plan}
-use Rattle.asking.specs.MergedTail.{CanMergeTail, HasTail, barsOnly, mergedBy}
-use Rattle.asking.specs.FeedPlan.{planOf, InView}
-use Rattle.asking.specs.Asked.{lastOf}
-use Rattle.asking.specs.AskSteps.{earlyBy, EarlyOf, markFor, lastFrom, lastIn, HasLast, InColumns, CanTry, triedBars, TriedOf}
+use Rattle.asking.specs.Code.MergedTail.{CanMergeTail, HasTail, barsOnly, mergedBy}
+use Rattle.asking.specs.Code.FeedPlan.{planOf, InView}
+use Rattle.asking.specs.Code.Asked.{lastOf}
+use Rattle.asking.specs.Code.AskSteps.{earlyBy, EarlyOf, markFor, lastFrom, lastIn, HasLast, InColumns, CanTry, triedBars, TriedOf}
 
 -- ---- questions 5 to 10
 

@@ -10,7 +10,8 @@ use Rattle.bars.specs.declared.Bar.{Bar}
 use Rattle.bars.specs.Bars.{Merged}
 use Rattle.bars.specs.Lists.{last, init}
 use Rattle.bars.specs.Questions.{firstFailed}
-use Rattle.stores.specs.Stores.{MergedStore, SizedRaw, rawBars, barAt, rawPart}
+use Rattle.stores.specs.Stores.{MergedStore, rawBars, rawPart}
+use Rattle.stores.specs.Code.StoreRows.{SizedRaw, barAt}
 use Rattle.machine.specs.declared.Mark.{Mark}
 use Rattle.machine.specs.declared.Mark.the-variants.{D, G}
 use Rattle.machine.specs.Strokes.{Stroke, directionOf}
@@ -19,19 +20,20 @@ use Rattle.machine.specs.Feed.{isLater, mergedWith}
 use Rattle.machine.specs.Soundness.{barsOf}
 use Rattle.machine.specs.FeedQuestions.{fewerIf, merged, question10, question11, question12, orElse, firstOf, failedAfter4}
 use Rattle.strokes.specs.declared.Stand.{Stand}
-use Rattle.strokes.specs.Stored.{Stores, FractalStore, strokeWith, settingsOf, stateOf, barCounts, total}
-use Rattle.strokes.specs.StoreSteps.{mergedAgain}
-use Rattle.strokes.specs.StrokeStore.{Kept, LastStands, LastIs, keptStrokes, lastRead}
+use Rattle.strokes.specs.StateRead.{strokeWith, settingsOf, stateOf, barCounts, total}
+use Rattle.strokes.specs.Lent.{Stores, FractalStore}
+use Rattle.strokes.specs.Code.BarSteps.{mergedAgain}
+use Rattle.strokes.specs.Code.StrokeSteps.{Kept, LastStands, LastIs, keptStrokes, lastRead}
 use Rattle.strokes.proofs.StoredStrokes.{last-is}
 use Rattle.sound.proofs.SoundFacts.{Facts}
-use Rattle.check_bi.specs.Scan.{candleOf}
+use Rattle.check_bi.specs.Code.Scan.{candleOf}
 use Rattle.asking.specs.declared.plan.Plan.{Plan}
 use Rattle.asking.specs.declared.questions.Early.{Early}
 use Rattle.asking.specs.declared.questions.Tried.{Tried}
-use Rattle.asking.specs.MergedTail.{mergedBy}
-use Rattle.asking.specs.FeedPlan.{planOf, refusedOf}
-use Rattle.asking.specs.Asked.{timeOr0, lastOf, planFor, AskedOf}
-use Rattle.asking.specs.AskSteps.{earlyBy, EarlyOf, markFor, lastFrom, lastIn, CanTry, triedBars, TriedOf}
+use Rattle.asking.specs.Code.MergedTail.{mergedBy}
+use Rattle.asking.specs.Code.FeedPlan.{planOf, refusedOf}
+use Rattle.asking.specs.Code.Asked.{timeOr0, lastOf, planFor, AskedOf}
+use Rattle.asking.specs.Code.AskSteps.{earlyBy, EarlyOf, markFor, lastFrom, lastIn, CanTry, triedBars, TriedOf}
 use Rattle.asking.proofs.PlanMeans.{KeptLast, Planned, plan-means, questions-asked}
 use Rattle.asking.proofs.PlanMeans as means
 

@@ -10,20 +10,19 @@ use lib.ListN.{length, take, drop, getD, length-append, drop-of-length-le}
 use lib.Seq.{take-suc, append-snoc, length-take-le, drop-cons}
 use lib.IntN.{ℤ, pos}
 use Rattle.bars.specs.declared.Bar.{Bar}
-use Rattle.bars.specs.declared.NewBar.{NewBar}
-use Rattle.bars.specs.Bars.{Merged, mergedOf}
-use Rattle.bars.specs.Lists.{keepIf, foldl, last}
-use Rattle.bars.specs.Merging.{atTimes, again, mergeAll}
-use Rattle.stores.specs.Stores.{RawStore, MergedStore, rawPart, SizedRaw, SizedMerged, rawBars, mergedBars, barAt, newBarAt, setBar}
-use Rattle.bars.specs.MergedBars.{mergeBars, mergeBarsAll, behind}
+use Rattle.bars.specs.Lists.{keepIf, foldLeft}
+use Rattle.bars.specs.Merging.{atTimes}
+use Rattle.stores.specs.Stores.{RawStore, rawBars}
+use Rattle.stores.specs.Code.StoreRows.{SizedRaw, barAt, setBar}
+use Rattle.bars.specs.Code.MergedBars.{mergeBars, mergeBarsAll, behind}
 use Rattle.stores.proofs.Columns.{raw-length, raw-at, raw-appended, sized-set}
 use Rattle.bars.proofs.MergedLists.{merge-grows}
 use Rattle.stores.proofs.Searching.{timed}
 use Rattle.stores.proofs.TailMerging.{view-merged}
-use Rattle.strokes.specs.StoreSteps.{RisingRaw}
+use Rattle.strokes.specs.Code.BarSteps.{RisingRaw}
 use Rattle.strokes.proofs.StoredAgain.{keeping}
-use Rattle.check_bi.specs.View.{view}
-use Rattle.asking.specs.MergedTail.{CanTail, HasTail, NamedRaw}
+use Rattle.check_bi.specs.Code.View.{view}
+use Rattle.asking.specs.Code.MergedTail.{CanTail, HasTail, NamedRaw}
 
 -- ---- lists
 
@@ -171,20 +170,20 @@ rises s K n h = record { sized = h .sized; fits = h .fits; rise = h .rise }
 -- no raw bar of the time, and one
 pub named-none : (u t : RawStore) (K k n m : ℕ) (bs : List Bar) → CanTail u t K k n m → (m ≡ 0 → n ≡ 0) → bs ≡ []
     → HasTail u t k n m (mergeBarsAll (view n (rawBars u) m (rawBars t)) bs) × (m ≤ m + 1)
-unfolding mergeBarsAll foldl
+unfolding mergeBarsAll foldLeft
 named-none u t K k n m bs h tied e =
     let room = h .room in
     (record { bars = ap (mergeBarsAll (view n (rawBars u) m (rawBars t))) (sym e); sized = h .tail; within = omega arith; tied = tied }, omega arith)
 
 pub named-one : (u w : RawStore) (k n m r : ℕ) (v bs : List Bar) (b : Bar) → bs ≡ b ∷ [] → HasTail u w k n r (mergeBars v b) × (r ≤ m + 1)
     → HasTail u w k n r (mergeBarsAll v bs) × (r ≤ m + 1)
-unfolding mergeBarsAll foldl
+unfolding mergeBarsAll foldLeft
 named-one u w k n m r v bs b e h = (tail-of u w k n r (mergeBars v b) (mergeBarsAll v bs) (sym (ap (mergeBarsAll v) e)) (h .0), h .1)
 
 -- ---- the run
 
 merge-both : (l a b : List Bar) → mergeBarsAll l (a ++ b) ≡ mergeBarsAll (mergeBarsAll l a) b
-unfolding mergeBarsAll foldl
+unfolding mergeBarsAll foldLeft
 merge-both l [] b = refl
 merge-both l (x ∷ a) b = merge-both (mergeBars l x) a b
 
@@ -216,7 +215,7 @@ module _ (u t : RawStore) (k n m : ℕ) (raw : List Bar) (es : List ℤ) (answer
       }
 
   pub tail-end : length es ≤ i → m ≤ k → HasTail u t k n m answer
-  unfolding mergeBarsAll foldl atTimes
+  unfolding mergeBarsAll foldLeft atTimes
   tail-end over fits =
       record {
         bars = ap (λ (ts : List ℤ). mergeBarsAll (view n (rawBars u) m (rawBars t)) (atTimes raw ts)) (sym (drop-of-length-le es {i = i} over)) ∙ g .left;

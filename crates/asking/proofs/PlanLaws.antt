@@ -14,18 +14,19 @@ use lib.Dec.{eqb, leb, ltb}
 use lib.Ieee.{Float, lt}
 use borrow.Author.Tests.{le-leb, lt-leb, lt-ltb, le-ltb, eq-eqb, ne-eqb}
 use Rattle.arith.specs.Order.{maxOf, minOf}
-use Rattle.stores.specs.Stores.{zipWith, nextIf, placeOf}
+use Rattle.stores.specs.Stores.{zipWith}
+use Rattle.stores.specs.Code.StoreRows.{nextIf, placeOf}
 use Rattle.machine.specs.declared.Mark.{Mark}
 use Rattle.machine.specs.declared.Mark.the-variants.{D, G}
-use Rattle.check_bi.specs.declared.scan.Candle.{Candle}
+use Rattle.check_bi.specs.declared.check_fx.Candle.{Candle}
 use Rattle.check_bi.specs.declared.scan.Scan.{Scan}
 use Rattle.check_bi.specs.declared.scan.FoundBi.{FoundBi}
 use Rattle.asking.specs.declared.plan.Last.{Last}
 use Rattle.asking.specs.declared.plan.Plan.{Plan}
-use Rattle.check_bi.specs.Scan.{blank, noFx, Small, holdsOf, barsTo, foundIf, foundOf, scanOf}
-use Rattle.check_bi.specs.View.{view, candleFrom, candles}
+use Rattle.check_bi.specs.Code.Scan.{blank, noFx, Small, foundIf, scanOf, foundFrom, FoundFits}
+use Rattle.check_bi.specs.Code.View.{view, candleFrom, candles}
 use Rattle.machine.specs.FeedQuestions.{orElse}
-use Rattle.asking.specs.FeedPlan.{cutOf, foundFrom, Fits, breaksIf, breaksOf, lastIf, lastWith, keptOf, brokenIf, joinOf, brokenOf, timesOf, lastCandle, planIf, planOf, InView, refusedOf}
+use Rattle.asking.specs.Code.FeedPlan.{cutOf, breaksIf, breaksOf, lastIf, lastWith, keptOf, brokenIf, joinOf, brokenOf, timesOf, lastCandle, planIf, planOf, InView, refusedOf}
 use Rattle.check_bi.proofs.ScanViews.{length-view, candle-in, length-candles}
 
 -- ---- the first place not before a time
@@ -59,37 +60,12 @@ module _ (v : List ℤ) (t : ℤ) (i k r : ℕ) (long : length v ≡ k) (so-far 
 
 -- ---- what is found
 
-and-first : (a b : Bool) → (a && b) ≡ true → a ≡ true
-and-first true b h = refl
-and-first false b h = h
-
-fits-if : (t : Bool) (s : Scan) (total : ℕ) → (t ≡ true → s .found ≡ true) → Small s total → (s .found ≡ true → s .end .place + 2 < total) → Fits (foundIf t s) total
-unfolding foundIf barsTo noFx
-fits-if true s total g h k =
-    let a = h .early in
-    let b = k (g refl) in
-    record { rest-in = h .last; bars-in = omega arith; enough = λ e. omega arith }
-fits-if false s total g h k =
-    record { rest-in = omega arith; bars-in = omega arith; enough = λ e. let y : _≡_ {A = ℕ} 0 1 = cc in absurd (omega arith) }
-
-fits-found : (minimum total : ℕ) (s : Scan) → Small s total → (s .found ≡ true → s .end .place + 2 < total) → Fits (foundOf minimum s) total
-unfolding foundOf
-fits-found minimum total s h k =
-    let b = leb minimum (barsTo s) && not (holdsOf (s .start) (s .end)) in
-    fits-if (s .found && b) s total (and-first (s .found) b) h k
-
-pub found-law : (minimum lo total : ℕ) (v : List Candle) (s : Scan) (r : FoundBi) → s ≡ scanOf (drop lo v) → r ≡ foundOf minimum s → Small s total → (s .found ≡ true → s .end .place + 2 < total)
-    → (r ≡ foundFrom minimum lo v) × Fits r total
-unfolding foundFrom
-found-law minimum lo total v s r e f h k =
-    (f ∙ ap (foundOf minimum) e, subst (λ (z : FoundBi). Fits z total) (sym f) (fits-found minimum total s h k))
-
 pub cut-law : (v : List Candle) (s : Scan) (total : ℕ) → s ≡ scanOf (drop 0 v) → Small s (total - 0) → (s .cut .place ≡ cutOf v) × (s .cut .place ≤ total)
 unfolding cutOf
 cut-law v s total e h = let k = h .cut-in in (ap (λ (z : Scan). z .cut .place) e, omega arith)
 
 -- from place 0 on nothing is left out
-pub fits-all : (f : FoundBi) (total : ℕ) → Fits f (total - 0) → Fits f total
+pub fits-all : (f : FoundBi) (total : ℕ) → FoundFits f (total - 0) → FoundFits f total
 fits-all f total h =
     let a = h .rest-in in
     let b = h .bars-in in
@@ -135,7 +111,7 @@ broken-yes f b k ts total j t h e g =
     ap (λ (x : ℕ). brokenIf true f b x total) (g ∙ ap (λ (x : ℤ). f .end .place + placeOf x (drop (f .end .place) ts)) e)
     ∙ ap (λ (x : Bool). brokenIf x f b (joinOf f b ts) total) (sym h)
 
-pub broken-in : (f : FoundBi) (b : Last) (total j : ℕ) → Fits f total → j ≤ total → InView (record { cut = 0; found = f; broken = true; join = j; left = b .bars - 2 + (total - j) }) total
+pub broken-in : (f : FoundBi) (b : Last) (total j : ℕ) → FoundFits f total → j ≤ total → InView (record { cut = 0; found = f; broken = true; join = j; left = b .bars - 2 + (total - j) }) total
 broken-in f b total j h k = let p = h .rest-in in record { rest-in = omega arith; join-in = k; bars-in = h .bars-in }
 
 pub broken-no : (f : FoundBi) (b : Last) (k : Candle) (ts : List ℤ) (total : ℕ) (r : Plan) → breaksOf b k ≡ false → (r ≡ keptOf 0 f total) × InView r total

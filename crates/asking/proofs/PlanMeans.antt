@@ -18,13 +18,13 @@ use Rattle.arith.specs.Order.{maxOf, minOf}
 use Rattle.bars.specs.declared.Bar.{Bar}
 use Rattle.bars.specs.Bars.{Merged}
 use Rattle.bars.specs.Lists.{last, init}
-use Rattle.stores.specs.Stores.{placeOf}
+use Rattle.stores.specs.Code.StoreRows.{placeOf}
 use Rattle.stores.proofs.Searching.{place-skip}
 use Rattle.stores.proofs.AgainBound.{init-length}
 use Rattle.machine.specs.declared.Mark.{Mark}
 use Rattle.machine.specs.declared.Mark.the-variants.{D, G}
-use Rattle.check_bi.specs.declared.scan.Candle.{Candle}
-use Rattle.check_bi.specs.declared.scan.Fx.{Fx}
+use Rattle.check_bi.specs.declared.check_fx.Candle.{Candle}
+use Rattle.check_bi.specs.declared.check_fx.Fx.{Fx}
 use Rattle.check_bi.specs.declared.scan.Scan.{Scan}
 use Rattle.check_bi.specs.declared.scan.FoundBi.{FoundBi}
 use Rattle.asking.specs.declared.plan.Last.{Last}
@@ -37,9 +37,9 @@ use Rattle.machine.specs.Stand.{Settings, State}
 use Rattle.machine.specs.Feed.{Moved, addFound, addMade, makeAfter, makeIf, make, breakIf, breakLast, moveAfter, moveIf, move}
 use Rattle.machine.specs.Soundness.{barsOf}
 use Rattle.machine.specs.FeedQuestions.{merged, joinedFits, movedFits, question11, question12, orElse}
-use Rattle.check_bi.specs.Scan.{candleOf, fxAt, fxPlaced, blank, noFx, barsTo, holdsOf, scanOf, foundIf, foundOf}
-use Rattle.check_bi.specs.View.{candleFrom}
-use Rattle.asking.specs.FeedPlan.{cutOf, foundFrom, breaksIf, breaksOf, lastIf, lastWith, keptOf, brokenIf, joinOf, brokenOf, timesOf, lastCandle, planIf, planOf, refusedOf}
+use Rattle.check_bi.specs.Code.Scan.{candleOf, fxAt, fxPlaced, blank, noFx, barsTo, holdsOf, scanOf, foundIf, foundOf, foundFrom}
+use Rattle.check_bi.specs.Code.View.{candleFrom}
+use Rattle.asking.specs.Code.FeedPlan.{cutOf, breaksIf, breaksOf, lastIf, lastWith, keptOf, brokenIf, joinOf, brokenOf, timesOf, lastCandle, planIf, planOf, refusedOf}
 use Rattle.machine.proofs.Places.{fits}
 use Rattle.machine.proofs.FewerFractals.{nothingFound, end-stands, order}
 use Rattle.check_bi.proofs.ScanPlaces.{MadeAs, Means, cut-means, found-means, place-is}

@@ -11,18 +11,19 @@ use lib.IntN.{ℤ, pos}
 use Rattle.bars.specs.declared.Bar.{Bar}
 use Rattle.bars.specs.declared.NewBar.{NewBar}
 use Rattle.bars.specs.Bars.{mergedOf}
-use Rattle.bars.specs.Lists.{foldl, last}
+use Rattle.bars.specs.Lists.{foldLeft, last}
 use Rattle.bars.specs.Merging.{mergeIn, mergeAll, atTimes, again}
-use Rattle.stores.specs.Stores.{RawStore, MergedStore, SizedMerged, rawPart, rawBars, mergedBars, newBarAt}
-use Rattle.bars.specs.MergedBars.{mergeBars, mergeBarsAll}
+use Rattle.stores.specs.Stores.{RawStore, MergedStore, rawPart, rawBars, mergedBars}
+use Rattle.stores.specs.Code.StoreRows.{SizedMerged, newBarAt}
+use Rattle.bars.specs.Code.MergedBars.{mergeBars, mergeBarsAll}
 use Rattle.stores.proofs.Columns.{merged-length, merged-at, merged-bars}
 use Rattle.stores.proofs.KeptBars.{map-take}
 use Rattle.bars.proofs.MergedLists.{withoutElements, merge-bars, merge-bars-all}
-use Rattle.strokes.specs.StoreSteps.{mergedAgain}
+use Rattle.strokes.specs.Code.BarSteps.{mergedAgain}
 use Rattle.strokes.proofs.StoredRaw.{init-take, last-take}
 use Rattle.strokes.proofs.StoredUnfinished.{room-of}
-use Rattle.check_bi.specs.View.{view}
-use Rattle.asking.specs.MergedTail.{CanTail, CanRun, HasTail, CanMergeTail, barsOnly, mergedBy}
+use Rattle.check_bi.specs.Code.View.{view}
+use Rattle.asking.specs.Code.MergedTail.{CanTail, CanRun, HasTail, CanMergeTail, barsOnly, mergedBy}
 use Rattle.asking.proofs.MergedTails.{TailGoing, tail-turn, tail-end, tail-of}
 
 -- ---- the run over the elements
@@ -74,7 +75,7 @@ unfolding barsOnly
 later-bars u K n b h = ap (λ (l : List Bar). mergeBars l b) (bars-kept u K n h) ∙ sym (merge-bars (take n (mergedBars u)) b)
 
 merge-end : (l bs : List Bar) (b : Bar) → mergeBars (mergeBarsAll l bs) b ≡ mergeBarsAll l (bs ++ b ∷ [])
-unfolding mergeBarsAll foldl
+unfolding mergeBarsAll foldLeft
 merge-end l [] b = refl
 merge-end l (x ∷ bs) b = merge-end (mergeBars l x) bs b
 

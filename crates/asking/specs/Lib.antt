@@ -1,4 +1,1 @@
-pub mod FeedPlan
-pub mod MergedTail
-pub mod Asked
-pub mod AskSteps
+pub mod Code

@@ -5,12 +5,13 @@ ghost use mathlib.Core.Path.{_≡_};
 ghost use mathlib.Core.Bool.{false};
 ghost use Prim.Native.Nat.{_+_, _≤_};
 ghost use lib.ListN.{length, take};
-ghost use Rattle.stores.specs.Stores.{rawStore, mergedStore, rawBars, mergedBars};
+ghost use Rattle.stores.specs.Stores.{rawBars, mergedBars};
 ghost use Rattle.bars.specs.Merging.{atTimes};
-ghost use Rattle.bars.specs.MergedBars.{mergeBars, mergeBarsAll};
-ghost use Rattle.check_bi.specs.View.{view};
-ghost use Rattle.strokes.specs.StoreSteps.{mergedAgain};
-ghost use Rattle.asking.specs.MergedTail.{CanTail, CanRun, HasTail, NamedRaw, CanMergeTail, barsOnly, mergedBy};
+ghost use Rattle.bars.specs.Code.MergedBars.{mergeBars, mergeBarsAll};
+ghost use Rattle.check_bi.specs.Code.View.{view};
+ghost use Rattle.strokes.specs.Code.BarSteps.{mergedAgain};
+ghost use Rattle.asking.specs.Code.MergedTail.{CanTail, CanRun, HasTail, NamedRaw, CanMergeTail, barsOnly, mergedBy};
+ghost use Rattle.stores.specs.Lent.{rawHeld, rawBefore, rawAfter, mergedHeld, mergedBefore};
 use bars::Bar;
 
 pub struct TailAnswer {
@@ -30,8 +31,8 @@ fn merge_behind(
     m: usize,
     b: Bar,
 ) -> usize
-    requires { ⌜ CanTail (rawStore (now ut) (now ui) (now up)) (rawStore (now tt) (now ti) (now tp)) (length (now ut)) (length (now tt)) n m ⌝ ∗ ⌜ (m ≡ 0 → n ≡ 0) ⌝ }
-    ensures { λ r. ⌜ HasTail (rawStore (now (ut .entry)) (now (ui .entry)) (now (up .entry))) (rawStore (now (tt .exit)) (now (ti .exit)) (now (tp .exit))) (length (now (tt .entry))) n r (mergeBars (view n (rawBars (rawStore (now (ut .entry)) (now (ui .entry)) (now (up .entry)))) m (rawBars (rawStore (now (tt .entry)) (now (ti .entry)) (now (tp .entry))))) b) × (r ≤ m + 1) ⌝ }
+    requires { ⌜ CanTail (rawHeld ut ui up) (rawHeld tt ti tp) (length (now ut)) (length (now tt)) n m ⌝ ∗ ⌜ (m ≡ 0 → n ≡ 0) ⌝ }
+    ensures { λ r. ⌜ HasTail (rawBefore ut ui up) (rawAfter tt ti tp) (length (now (tt .entry))) n r (mergeBars (view n (rawBars (rawBefore ut ui up)) m (rawBars (rawBefore tt ti tp))) b) × (r ≤ m + 1) ⌝ }
 {
     if n == 0 {
         return stores::merge_into_tail(false, b, tt, ti, tp, m, b);
@@ -57,8 +58,8 @@ fn merge_named(
     m: usize,
     t: i64,
 ) -> usize
-    requires { ⌜ NamedRaw (rawStore (now rt) (now ri) (now rp)) (length (now rt)) raw ⌝ ∗ ⌜ CanTail (rawStore (now ut) (now ui) (now up)) (rawStore (now tt) (now ti) (now tp)) (length (now ut)) (length (now tt)) n m ⌝ ∗ ⌜ (m ≡ 0 → n ≡ 0) ⌝ }
-    ensures { λ r. ⌜ HasTail (rawStore (now (ut .entry)) (now (ui .entry)) (now (up .entry))) (rawStore (now (tt .exit)) (now (ti .exit)) (now (tp .exit))) (length (now (tt .entry))) n r (mergeBarsAll (view n (rawBars (rawStore (now (ut .entry)) (now (ui .entry)) (now (up .entry)))) m (rawBars (rawStore (now (tt .entry)) (now (ti .entry)) (now (tp .entry))))) (atTimes (take raw (rawBars (rawStore (now (rt .entry)) (now (ri .entry)) (now (rp .entry))))) (t ∷ []))) × (r ≤ m + 1) ⌝ }
+    requires { ⌜ NamedRaw (rawHeld rt ri rp) (length (now rt)) raw ⌝ ∗ ⌜ CanTail (rawHeld ut ui up) (rawHeld tt ti tp) (length (now ut)) (length (now tt)) n m ⌝ ∗ ⌜ (m ≡ 0 → n ≡ 0) ⌝ }
+    ensures { λ r. ⌜ HasTail (rawBefore ut ui up) (rawAfter tt ti tp) (length (now (tt .entry))) n r (mergeBarsAll (view n (rawBars (rawBefore ut ui up)) m (rawBars (rawBefore tt ti tp))) (atTimes (take raw (rawBars (rawBefore rt ri rp))) (t ∷ []))) × (r ≤ m + 1) ⌝ }
 {
     let p = stores::find_time(rt, raw, t);
     if p < raw {
@@ -81,8 +82,8 @@ fn start_tail(
     ti: &mut [i32],
     tp: &mut [[f64; 6]],
 ) -> TailAnswer
-    requires { ⌜ CanTail (rawStore (now ut) (now ui) (now up)) (rawStore (now tt) (now ti) (now tp)) (length (now ut)) (length (now tt)) n 0 ⌝ }
-    ensures { λ r. ⌜ HasTail (rawStore (now (ut .entry)) (now (ui .entry)) (now (up .entry))) (rawStore (now (tt .exit)) (now (ti .exit)) (now (tp .exit))) (length (now (tt .entry))) (r .base) (r .rows) (take n (rawBars (rawStore (now (ut .entry)) (now (ui .entry)) (now (up .entry))))) × (r .base ≤ n) × (r .rows ≤ 1) ⌝ }
+    requires { ⌜ CanTail (rawHeld ut ui up) (rawHeld tt ti tp) (length (now ut)) (length (now tt)) n 0 ⌝ }
+    ensures { λ r. ⌜ HasTail (rawBefore ut ui up) (rawAfter tt ti tp) (length (now (tt .entry))) (r .base) (r .rows) (take n (rawBars (rawBefore ut ui up))) × (r .base ≤ n) × (r .rows ≤ 1) ⌝ }
 {
     if n == 0 {
         return TailAnswer { base: 0, rows: 0 };
@@ -104,8 +105,8 @@ fn tail_later(
     tp: &mut [[f64; 6]],
     b: Bar,
 ) -> TailAnswer
-    requires { ⌜ CanTail (rawStore (now ut) (now ui) (now up)) (rawStore (now tt) (now ti) (now tp)) (length (now ut)) (length (now tt)) count 1 ⌝ }
-    ensures { λ r. ⌜ HasTail (rawStore (now (ut .entry)) (now (ui .entry)) (now (up .entry))) (rawStore (now (tt .exit)) (now (ti .exit)) (now (tp .exit))) (length (now (tt .entry))) (r .base) (r .rows) (mergeBars (take count (rawBars (rawStore (now (ut .entry)) (now (ui .entry)) (now (up .entry))))) b) × (r .base ≤ count) × (r .rows ≤ 2) ⌝ }
+    requires { ⌜ CanTail (rawHeld ut ui up) (rawHeld tt ti tp) (length (now ut)) (length (now tt)) count 1 ⌝ }
+    ensures { λ r. ⌜ HasTail (rawBefore ut ui up) (rawAfter tt ti tp) (length (now (tt .entry))) (r .base) (r .rows) (mergeBars (take count (rawBars (rawBefore ut ui up))) b) × (r .base ≤ count) × (r .rows ≤ 2) ⌝ }
 {
     let start = start_tail(ut, ui, up, count, tt, ti, tp);
     let base = start.base;
@@ -131,8 +132,8 @@ fn merge_elements(
     es: [i64; 101],
     old: usize,
 ) -> usize
-    requires { ⌜ NamedRaw (rawStore (now rt) (now ri) (now rp)) (length (now rt)) raw ⌝ ∗ ⌜ CanRun (rawStore (now ut) (now ui) (now up)) (rawStore (now tt) (now ti) (now tp)) (length (now ut)) (length (now tt)) n m old ⌝ }
-    ensures { λ r. ⌜ HasTail (rawStore (now (ut .entry)) (now (ui .entry)) (now (up .entry))) (rawStore (now (tt .exit)) (now (ti .exit)) (now (tp .exit))) (length (now (tt .entry))) n r (mergeBarsAll (view n (rawBars (rawStore (now (ut .entry)) (now (ui .entry)) (now (up .entry)))) m (rawBars (rawStore (now (tt .entry)) (now (ti .entry)) (now (tp .entry))))) (atTimes (take raw (rawBars (rawStore (now (rt .entry)) (now (ri .entry)) (now (rp .entry))))) (take old es))) × (r ≤ m + old) ⌝ }
+    requires { ⌜ NamedRaw (rawHeld rt ri rp) (length (now rt)) raw ⌝ ∗ ⌜ CanRun (rawHeld ut ui up) (rawHeld tt ti tp) (length (now ut)) (length (now tt)) n m old ⌝ }
+    ensures { λ r. ⌜ HasTail (rawBefore ut ui up) (rawAfter tt ti tp) (length (now (tt .entry))) n r (mergeBarsAll (view n (rawBars (rawBefore ut ui up)) m (rawBars (rawBefore tt ti tp))) (atTimes (take raw (rawBars (rawBefore rt ri rp))) (take old es))) × (r ≤ m + old) ⌝ }
 {
     let mut rows = m;
     let mut i: usize = 0;
@@ -162,8 +163,8 @@ fn tail_again(
     tp: &mut [[f64; 6]],
     b: Bar,
 ) -> TailAnswer
-    requires { ⌜ NamedRaw (rawStore (now rt) (now ri) (now rp)) (length (now rt)) raw ⌝ ∗ ⌜ CanMergeTail false (mergedStore (now ut) (now ui) (now up) (now uc) (now ue)) (rawStore (now tt) (now ti) (now tp)) (length (now ut)) count ⌝ }
-    ensures { λ r. ⌜ HasTail (rawStore (now (ut .entry)) (now (ui .entry)) (now (up .entry))) (rawStore (now (tt .exit)) (now (ti .exit)) (now (tp .exit))) 103 (r .base) (r .rows) (barsOnly (mergedAgain (take raw (rawBars (rawStore (now (rt .entry)) (now (ri .entry)) (now (rp .entry))))) (take count (mergedBars (mergedStore (now (ut .entry)) (now (ui .entry)) (now (up .entry)) (now (uc .entry)) (now (ue .entry))))) b)) × (r .base ≤ count) ⌝ }
+    requires { ⌜ NamedRaw (rawHeld rt ri rp) (length (now rt)) raw ⌝ ∗ ⌜ CanMergeTail false (mergedHeld ut ui up uc ue) (rawHeld tt ti tp) (length (now ut)) count ⌝ }
+    ensures { λ r. ⌜ HasTail (rawBefore ut ui up) (rawAfter tt ti tp) 103 (r .base) (r .rows) (barsOnly (mergedAgain (take raw (rawBars (rawBefore rt ri rp))) (take count (mergedBars (mergedBefore ut ui up uc ue))) b)) × (r .base ≤ count) ⌝ }
 {
     let at = count - 1;
     let newest = stores::read_new_bar(ut, ui, up, uc, ue, at);
@@ -195,8 +196,8 @@ pub fn tail_of(
     later: bool,
     b: Bar,
 ) -> TailAnswer
-    requires { ⌜ NamedRaw (rawStore (now rt) (now ri) (now rp)) (length (now rt)) raw ⌝ ∗ ⌜ CanMergeTail later (mergedStore (now ut) (now ui) (now up) (now uc) (now ue)) (rawStore (now tt) (now ti) (now tp)) (length (now ut)) count ⌝ }
-    ensures { λ r. ⌜ HasTail (rawStore (now (ut .entry)) (now (ui .entry)) (now (up .entry))) (rawStore (now (tt .exit)) (now (ti .exit)) (now (tp .exit))) 103 (r .base) (r .rows) (barsOnly (mergedBy later (take raw (rawBars (rawStore (now (rt .entry)) (now (ri .entry)) (now (rp .entry))))) (take count (mergedBars (mergedStore (now (ut .entry)) (now (ui .entry)) (now (up .entry)) (now (uc .entry)) (now (ue .entry))))) b)) × (r .base ≤ count) ⌝ }
+    requires { ⌜ NamedRaw (rawHeld rt ri rp) (length (now rt)) raw ⌝ ∗ ⌜ CanMergeTail later (mergedHeld ut ui up uc ue) (rawHeld tt ti tp) (length (now ut)) count ⌝ }
+    ensures { λ r. ⌜ HasTail (rawBefore ut ui up) (rawAfter tt ti tp) 103 (r .base) (r .rows) (barsOnly (mergedBy later (take raw (rawBars (rawBefore rt ri rp))) (take count (mergedBars (mergedBefore ut ui up uc ue))) b)) × (r .base ≤ count) ⌝ }
 {
     if later {
         return tail_later(ut, ui, up, count, tt, ti, tp, b);

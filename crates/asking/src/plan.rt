@@ -5,12 +5,14 @@ ghost use Prim.Native.Nat.{_+_, _-_, _≤_, _<_};
 ghost use lib.ListN.{length, getD, drop};
 ghost use lib.IntN.{pos};
 ghost use lib.Signed.{ltZ};
-ghost use Rattle.stores.specs.Stores.{placeOf};
-ghost use Rattle.check_bi.specs.View.{view, candles};
-ghost use Rattle.asking.specs.FeedPlan.{cutOf, foundFrom, Fits, breaksOf, lastWith, keptOf, brokenOf, planOf, refusedOf, InView};
+ghost use Rattle.stores.specs.Code.StoreRows.{placeOf};
+ghost use Rattle.check_bi.specs.Code.View.{view, candles};
+ghost use Rattle.asking.specs.Code.FeedPlan.{cutOf, breaksOf, lastWith, keptOf, brokenOf, planOf, refusedOf, InView};
+ghost use Rattle.check_bi.specs.Code.Scan.{foundFrom, FoundFits};
 use check_bi::Candle;
 use check_bi::FoundBi;
 use check_bi::candle_at;
+use check_bi::check_bi;
 use check_bi::found_bi;
 use check_bi::no_bi;
 use check_bi::scan_from;
@@ -64,24 +66,6 @@ fn skip(ts: &[i64], us: &[i64], n: usize, m: usize, lo: usize, t: i64) -> usize
         }
     }
     i
-}
-
-// check_bi of the view from place lo on.
-fn found_from(
-    ts: &[i64],
-    ps: &[[f64; 6]],
-    us: &[i64],
-    qs: &[[f64; 6]],
-    n: usize,
-    m: usize,
-    lo: usize,
-    minimum: usize,
-) -> FoundBi
-    requires { ⌜ (n ≤ length (now ts)) × (n ≤ length (now ps)) × (m ≤ length (now us)) × (m ≤ length (now qs)) × (n + m < 4294967296) × (lo ≤ n + m) ⌝ }
-    ensures { λ r. ⌜ (r ≡ foundFrom minimum lo (candles (view n (now (ts .entry)) m (now (us .entry))) (view n (now (ps .entry)) m (now (qs .entry))))) × Fits r (n + m - lo) ⌝ }
-{
-    let s = scan_from(ts, ps, us, qs, n, m, lo);
-    found_bi(s, minimum)
 }
 
 // Whether the last stroke breaks where k is the last unfinished bar.
@@ -155,7 +139,7 @@ fn first_plan(
         let f = found_bi(s, minimum);
         return kept_plan(0, f, total);
     }
-    let f = found_from(ts, ps, us, qs, n, m, cut, minimum);
+    let f = check_bi(ts, ps, us, qs, n, m, cut, minimum);
     kept_plan(cut, f, total)
 }
 
@@ -167,7 +151,7 @@ pub fn no_plan() -> Plan {
 
 // A stroke was kept before: b, which is the last one now, is tested against the last unfinished bar k.
 fn broken_plan(ts: &[i64], us: &[i64], n: usize, m: usize, f: FoundBi, b: Last, k: Candle) -> Plan
-    requires { ⌜ (n ≤ length (now ts)) × (m ≤ length (now us)) × (n + m < 4294967296) × Fits f (n + m) × (2 ≤ b .bars) × (b .bars < 4294967296) ⌝ }
+    requires { ⌜ (n ≤ length (now ts)) × (m ≤ length (now us)) × (n + m < 4294967296) × FoundFits f (n + m) × (2 ≤ b .bars) × (b .bars < 4294967296) ⌝ }
     ensures { λ r. ⌜ (r ≡ brokenOf f b k (view n (now (ts .entry)) m (now (us .entry))) (n + m)) × InView r (n + m) ⌝ }
 {
     let total = n + m;
@@ -211,7 +195,7 @@ pub fn plan_of(
     if kept == 0 {
         return first_plan(ts, ps, us, qs, n, m, minimum);
     }
-    let f = found_from(ts, ps, us, qs, n, m, 0, minimum);
+    let f = check_bi(ts, ps, us, qs, n, m, 0, minimum);
     let b = last_with(f, last);
     let k = candle_at(ts, ps, us, qs, n, m, total - 1);
     broken_plan(ts, us, n, m, f, b, k)

@@ -4,14 +4,16 @@ ghost use mathlib.Core.Path.{_≡_};
 ghost use Prim.Native.Nat.{_+_, _≤_, _<_};
 ghost use lib.ListN.{length, take};
 ghost use Rattle.bars.specs.Lists.{last};
-ghost use Rattle.stores.specs.Stores.{rawStore, mergedStore, SizedRaw, rawBars};
-ghost use Rattle.check_bi.specs.View.{view, candles};
-ghost use Rattle.strokes.specs.Stored.{fractalStore, settingsOf, stateOf};
-ghost use Rattle.sound.specs.SoundStand.{storesOf};
-ghost use Rattle.sound.specs.Question4.{IsSound};
-ghost use Rattle.asking.specs.FeedPlan.{planOf, InView};
-ghost use Rattle.asking.specs.Asked.{AskedOf};
-ghost use Rattle.asking.specs.AskSteps.{earlyBy, EarlyOf, markFor, lastIn, HasLast, InColumns, CanTry, TriedOf};
+ghost use Rattle.stores.specs.Stores.{rawBars};
+ghost use Rattle.stores.specs.Code.StoreRows.{SizedRaw};
+ghost use Rattle.check_bi.specs.Code.View.{view, candles};
+ghost use Rattle.strokes.specs.StateRead.{settingsOf, stateOf};
+ghost use Rattle.strokes.specs.Lent.{held, before};
+ghost use Rattle.sound.specs.StandSound.{IsSound};
+ghost use Rattle.asking.specs.Code.FeedPlan.{planOf, InView};
+ghost use Rattle.asking.specs.Code.Asked.{AskedOf};
+ghost use Rattle.asking.specs.Code.AskSteps.{earlyBy, EarlyOf, markFor, lastIn, HasLast, InColumns, CanTry, TriedOf};
+ghost use Rattle.stores.specs.Lent.{rawHeld, rawBefore, mergedHeld, mergedBefore};
 use crate::merged_tail::tail_of;
 use crate::plan::Last;
 use crate::plan::Plan;
@@ -63,8 +65,8 @@ fn room_for(q: u64, later: bool, count: usize, room: usize) -> u64
 
 // Questions 5 to 10, where the first `count` raw bars are kept and `room` fit.
 fn ask_early(rt: &[i64], ri: &[i32], rp: &[[f64; 6]], count: usize, room: usize, b: Bar) -> Early
-    requires { ⌜ SizedRaw (rawStore (now rt) (now ri) (now rp)) (length (now rt)) ⌝ ∗ ⌜ count ≤ length (now rt) ⌝ }
-    ensures { λ r. ⌜ EarlyOf (last (take count (rawBars (rawStore (now (rt .entry)) (now (ri .entry)) (now (rp .entry)))))) count room b r ⌝ }
+    requires { ⌜ SizedRaw (rawHeld rt ri rp) (length (now rt)) ⌝ ∗ ⌜ count ≤ length (now rt) ⌝ }
+    ensures { λ r. ⌜ EarlyOf (last (take count (rawBars (rawBefore rt ri rp)))) count room b r ⌝ }
 {
     if count == 0 {
         let q = bars::question_of_bar(b);
@@ -156,8 +158,8 @@ fn try_bar(
     later: bool,
     b: Bar,
 ) -> Tried
-    requires { ⌜ CanTry later stand (rawStore (now rt) (now ri) (now rp)) (mergedStore (now ut) (now ui) (now up) (now uc) (now ue)) (now st) (now fp) ⌝ }
-    ensures { λ r. ⌜ TriedOf later stand (rawStore (now (rt .entry)) (now (ri .entry)) (now (rp .entry))) (mergedStore (now (ut .entry)) (now (ui .entry)) (now (up .entry)) (now (uc .entry)) (now (ue .entry))) (now (st .entry)) (now (fp .entry)) b r ⌝ }
+    requires { ⌜ CanTry later stand (rawHeld rt ri rp) (mergedHeld ut ui up uc ue) (now st) (now fp) ⌝ }
+    ensures { λ r. ⌜ TriedOf later stand (rawBefore rt ri rp) (mergedBefore ut ui up uc ue) (now (st .entry)) (now (fp .entry)) b r ⌝ }
 {
     let mut tt = [0i64; 103];
     let mut ti = [0i32; 103];
@@ -210,8 +212,8 @@ pub fn ask(
     fp: &[[f64; 18]],
     b: Bar,
 ) -> Asked
-    requires { ⌜ IsSound stand (storesOf (rawStore (now rt) (now ri) (now rp)) (mergedStore (now ut) (now ui) (now up) (now uc) (now ue)) (mergedStore (now st) (now si) (now sp) (now sc) (now se)) (fractalStore (now fs) (now fp))) ⌝ }
-    ensures { λ r. ⌜ AskedOf (settingsOf stand) (stateOf stand (storesOf (rawStore (now (rt .entry)) (now (ri .entry)) (now (rp .entry))) (mergedStore (now (ut .entry)) (now (ui .entry)) (now (up .entry)) (now (uc .entry)) (now (ue .entry))) (mergedStore (now (st .entry)) (now (si .entry)) (now (sp .entry)) (now (sc .entry)) (now (se .entry))) (fractalStore (now (fs .entry)) (now (fp .entry))))) b r ⌝ }
+    requires { ⌜ IsSound stand (held rt ri rp ut ui up uc ue st si sp sc se fs fp) ⌝ }
+    ensures { λ r. ⌜ AskedOf (settingsOf stand) (stateOf stand (before rt ri rp ut ui up uc ue st si sp sc se fs fp)) b r ⌝ }
 {
     let rooms = stand.rooms;
     let count = stand.raw;

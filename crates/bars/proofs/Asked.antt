@@ -11,7 +11,7 @@ use lib.Signed.{ltZ, leZ}
 use lib.Ieee.{Float, nan, inf, fin, binary64, up, down, lt, le, eq, div}
 use lib.Ieee.Fits.{up-pos, down-pos}
 use Rattle.bars.specs.declared.Bar.{Bar}
-use Rattle.bars.specs.Questions.{isPrice, zeroFloat, hasMinus, fromZero, question5, question6, question7, question8, question9, firstNo, firstFailed, firstFailedAfter, notEarlier}
+use Rattle.bars.specs.Questions.{isPrice, question5, question6, question7, question8, question9, firstNo, firstFailed, firstFailedAfter, notEarlier}
 
 -- ---- tests asked one after the other
 
@@ -38,43 +38,6 @@ module _ (b : Bar) where
   pub prices-last : isPrice (b .«open») ≡ true → isPrice (b .close) ≡ true → isPrice (b .high) ≡ true → isPrice (b .low) ≡ question6 b
   unfolding question6
   prices-last p q r = rw (p, q, r)
-
--- ---- minus zero
-
-pub above-zero : (x : Float) → lt zeroFloat x ≡ true → true ≡ fromZero x
-unfolding fromZero zeroFloat le lt hasMinus
-above-zero nan h = absurd (false≢true h)
-above-zero (inf true) h = absurd (false≢true h)
-above-zero (inf false) h = refl
-above-zero (fin true m e) h = absurd (false≢true h)
-above-zero (fin false m e) h = rw h
-
-pub not-from-zero : (x : Float) → lt zeroFloat x ≡ false → eq zeroFloat x ≡ false → false ≡ fromZero x
-unfolding fromZero le
-not-from-zero x h k = rw (h, k)
-
-and-left : (p q : Bool) → p && q ≡ true → p ≡ true
-and-left true q h = refl
-and-left false q h = h
-
-zero-size : (m : ℕ) (e : ℤ) → eqb (0 * down e) (m * up e * 1) ≡ true → m ≡ 0
-zero-size zero e h = refl
-zero-size (suc m) e h =
-    let q = eqb→eq (0 * down e) (suc m * up e * 1) (rw h tt) in
-    let p = mul-pos {m = suc m} {n = up e} (omega arith) (up-pos e) in
-    absurd (omega (arith, zero-mul (down e)))
-
--- the reciprocal of a zero has its sign
-reciprocal : (s : Bool) (m : ℕ) (e : ℤ) → m ≡ 0 → lt zeroFloat (div binary64 (fin false 1 (pos 0)) (fin s m e)) ≡ not s
-unfolding zeroFloat lt div
-reciprocal true m e h = rw h
-reciprocal false m e h = rw h
-
-pub at-zero : (x : Float) → lt zeroFloat x ≡ false → eq zeroFloat x ≡ true → lt zeroFloat (div binary64 (fin false 1 (pos 0)) x) ≡ fromZero x
-unfolding fromZero zeroFloat le lt eq hasMinus
-at-zero nan h k = absurd (false≢true k)
-at-zero (inf s) h k = absurd (false≢true k)
-at-zero (fin s m e) h k = reciprocal s m e (zero-size m e (and-left (eqb (0 * down e) (m * up e * 1)) (Bool·beq false s || eqb (0 * down e) 0) k)) ∙ (rw (h, k))
 
 -- ---- the first that fails
 

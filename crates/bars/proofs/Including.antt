@@ -14,7 +14,7 @@ use Rattle.bars.specs.declared.Bar.{Bar}
 use Rattle.bars.specs.declared.NewBar.{NewBar}
 use Rattle.bars.specs.Bars.{Merged, mergedOf, own}
 use Rattle.bars.specs.Merging.{contains, united, mergedUp, mergedDown, settle, removeInclude}
-use Rattle.bars.specs.MergedBars.{unitedBar, mergedUpBar, mergedDownBar, settleBar, removeIncludeBar, removeIncludeAfter, inPlaceOf, withElement}
+use Rattle.bars.specs.Code.MergedBars.{unitedBar, mergedUpBar, mergedDownBar, settleBar, removeIncludeBar, removeIncludeAfter, inPlaceOf, withElement}
 
 -- ---- the tests, one at a time
 

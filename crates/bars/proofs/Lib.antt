@@ -1,3 +1,5 @@
+pub mod Times
+pub mod MinusZero
 pub mod Asked
 pub mod Including
 pub mod MergedLists

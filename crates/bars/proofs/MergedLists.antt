@@ -8,9 +8,9 @@ use lib.ListN.{length, length-map}
 use lib.Ieee.{Float, lt}
 use Rattle.bars.specs.declared.Bar.{Bar}
 use Rattle.bars.specs.Bars.{Merged, own}
-use Rattle.bars.specs.Lists.{foldl}
+use Rattle.bars.specs.Lists.{foldLeft}
 use Rattle.bars.specs.Merging.{contains, mergeIn, mergeAll}
-use Rattle.bars.specs.MergedBars.{settleBar, removeIncludeBar, mergeBars, mergeBarsAll}
+use Rattle.bars.specs.Code.MergedBars.{settleBar, removeIncludeBar, mergeBars, mergeBarsAll}
 use Rattle.bars.proofs.Including.{include-bars}
 
 -- a merged bar without its elements
@@ -27,7 +27,7 @@ merge-bars (k1 ∷ k2 ∷ []) b = ap (λ (r : List Bar). k1 .bar ∷ r) (include
 merge-bars (k1 ∷ k2 ∷ k3 ∷ l) b = ap (λ (r : List Bar). k1 .bar ∷ r) (merge-bars (k2 ∷ k3 ∷ l) b)
 
 pub merge-bars-all : (l : List Merged) (bs : List Bar) → map withoutElements (mergeAll l bs) ≡ mergeBarsAll (map withoutElements l) bs
-unfolding mergeAll mergeBarsAll foldl
+unfolding mergeAll mergeBarsAll foldLeft
 merge-bars-all l [] = refl
 merge-bars-all l (b ∷ bs) = merge-bars-all (mergeIn l b) bs ∙ ap (λ (r : List Bar). mergeBarsAll r bs) (merge-bars l b)
 
@@ -59,7 +59,7 @@ merge-grows (k1 ∷ k2 ∷ k3 ∷ l) b = let g = merge-grows (k2 ∷ k3 ∷ l) b
 
 -- and a run of m bars at most m
 pub merge-all-grows : (l bs : List Bar) → Grows (length l) (length bs) (length (mergeBarsAll l bs))
-unfolding mergeBarsAll foldl
+unfolding mergeBarsAll foldLeft
 merge-all-grows l [] = record { least = omega arith; most = omega arith }
 merge-all-grows l (b ∷ bs) =
     let g = merge-grows l b in

@@ -8,7 +8,7 @@ use lib.IntN.{ℤ, pos, negsuc}
 use lib.Ieee.{Float, nan, inf, fin, binary64, ofInt}
 use Rattle.bars.specs.declared.Bar.{Bar}
 use Rattle.bars.specs.declared.gaps.Gap.{Gap}
-use Rattle.bars.specs.declared.gaps.Gap.the-variants.{NoGap, Up, Down}
+use Rattle.bars.specs.declared.gaps.Gap.the-variants.{NoGap, Up}
 use Rattle.bars.specs.Bars.{Merged, own, rowOf}
 use Rattle.bars.specs.Questions.{firstFailed}
 use Rattle.bars.specs.Merging.{removeInclude, mergeAll}

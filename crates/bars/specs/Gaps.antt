@@ -15,11 +15,11 @@ use Rattle.bars.specs.Lists.{some-of, copied}
 
 -- ---- one pair
 
-unfoldable pub highOf : List Float → Float
-highOf p = getD p 2 nan
+unfoldable pub rowHigh : List Float → Float
+rowHigh p = getD p 2 nan
 
-unfoldable pub lowOf : List Float → Float
-lowOf p = getD p 3 nan
+unfoldable pub rowLow : List Float → Float
+rowLow p = getD p 3 nan
 
 -- how far the higher edge lies above the lower one, to 4 places: each operation rounds once
 unfoldable pub ratioOf : Float → Float → Float
@@ -28,23 +28,23 @@ ratioOf h l = roundTo 4 (sub binary64 (div binary64 h l) (fin false 1 (pos 0)))
 
 -- an up gap is covered by a bar whose low is below the first bar's high, a down gap by one whose high is above the first bar's low
 unfoldable pub coversUp : List Float → List Float → Bool
-unfolding lt highOf lowOf
-coversUp a x = lt (lowOf x) (highOf a)
+unfolding lt rowHigh rowLow
+coversUp a x = lt (rowLow x) (rowHigh a)
 
 unfoldable pub coversDown : List Float → List Float → Bool
-unfolding lt highOf lowOf
-coversDown a x = lt (lowOf a) (highOf x)
+unfolding lt rowHigh rowLow
+coversDown a x = lt (rowLow a) (rowHigh x)
 
 -- the pair a, b: by whether a's high is below b's low, and whether a's low is above b's high. `right` are the bars from b on.
 unfoldable pub gapIf : Bool → Bool → List Float → List Float → List (List Float) → Gap
-unfolding highOf lowOf ratioOf some-of coversUp coversDown
-gapIf true d a b right = Up (highOf a) (lowOf b) (ratioOf (lowOf b) (highOf a)) (some-of (coversUp a) right)
-gapIf false true a b right = Down (highOf b) (lowOf a) (ratioOf (lowOf a) (highOf b)) (some-of (coversDown a) right)
+unfolding rowHigh rowLow ratioOf some-of coversUp coversDown
+gapIf true d a b right = Up (rowHigh a) (rowLow b) (ratioOf (rowLow b) (rowHigh a)) (some-of (coversUp a) right)
+gapIf false true a b right = Down (rowHigh b) (rowLow a) (ratioOf (rowLow a) (rowHigh b)) (some-of (coversDown a) right)
 gapIf false false a b right = NoGap
 
 unfoldable pub gapOf : List Float → List Float → List (List Float) → Gap
-unfolding gapIf lt highOf lowOf
-gapOf a b right = gapIf (lt (highOf a) (lowOf b)) (lt (highOf b) (lowOf a)) a b right
+unfolding gapIf lt rowHigh rowLow
+gapOf a b right = gapIf (lt (rowHigh a) (rowLow b)) (lt (rowHigh b) (rowLow a)) a b right
 
 -- ---- all pairs
 

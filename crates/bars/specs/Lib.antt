@@ -2,6 +2,6 @@ pub mod Lists
 pub mod Bars
 pub mod Questions
 pub mod Merging
-pub mod MergedBars
 pub mod Gaps
 pub mod Cases
+pub mod Code

@@ -16,9 +16,9 @@ skipWhile p [] = []
 skipWhile p (a ∷ l) = let r = skipWhile p l in cond (p a) r (a ∷ l)
 
 -- from the left
-unfoldable pub foldl : {A B : Type 0} → (B → A → B) → B → List A → B
-foldl f b [] = b
-foldl f b (a ∷ l) = foldl f (f b a) l
+unfoldable pub foldLeft : {A B : Type 0} → (B → A → B) → B → List A → B
+foldLeft f b [] = b
+foldLeft f b (a ∷ l) = foldLeft f (f b a) l
 
 unfoldable pub last : {A : Type 0} → List A → Option A
 last [] = none

@@ -10,7 +10,7 @@ use lib.Ieee.{Float, binary64, lt, le, add}
 use Rattle.arith.specs.Order.{maxOf, minOf}
 use Rattle.bars.specs.declared.Bar.{Bar}
 use Rattle.bars.specs.Bars.{Merged, own}
-use Rattle.bars.specs.Lists.{keepIf, foldl, init}
+use Rattle.bars.specs.Lists.{keepIf, foldLeft, init}
 
 -- one's range contains the other's, equal edges counted
 unfoldable pub contains : Bar → Bar → Bool
@@ -71,8 +71,8 @@ mergeIn (k1 ∷ k2 ∷ k3 ∷ l) b = k1 ∷ mergeIn (k2 ∷ k3 ∷ l) b
 
 -- a run of bars, merged one after the other
 unfoldable pub mergeAll : List Merged → List Bar → List Merged
-unfolding foldl mergeIn
-mergeAll l bs = foldl mergeIn l bs
+unfolding foldLeft mergeIn
+mergeAll l bs = foldLeft mergeIn l bs
 
 -- ---- a bar with the last time
 

@@ -6,6 +6,7 @@ use lib.IntN.{ℤ, pos, negsuc}
 use lib.Signed.{leZ}
 use lib.Ieee.{Float, nan, inf, fin, le}
 use Rattle.bars.specs.declared.Bar.{Bar}
+use Rattle.arith.specs.Sums.{zeroF}
 
 -- ---- the bounds: -2^40 and 2^40, 2^-20 and 2^30, 0 and 2^50
 
@@ -20,9 +21,6 @@ leastPrice = fin false 1 (negsuc 19)
 
 unfoldable pub mostPrice : Float
 mostPrice = fin false 1 (pos 30)
-
-unfoldable pub zeroFloat : Float
-zeroFloat = fin false 0 (pos 0)
 
 unfoldable pub mostVolume : Float
 mostVolume = fin false 1 (pos 50)
@@ -50,8 +48,8 @@ hasMinus (fin s m e) = s
 
 -- from zero up. What is not below zero and has a minus sign is minus zero, and it is barred.
 unfoldable pub fromZero : Float → Bool
-unfolding le zeroFloat hasMinus
-fromZero x = le zeroFloat x && not (hasMinus x)
+unfolding le hasMinus
+fromZero x = le zeroF x && not (hasMinus x)
 
 unfoldable pub isVolume : Float → Bool
 unfolding le fromZero mostVolume

@@ -5,7 +5,7 @@ ghost use Prim.Native.Nat.{_≤_};
 ghost use lib.Ieee.{le};
 ghost use Rattle.bars.specs.Bars.{mergedOf, own};
 ghost use Rattle.bars.specs.Merging.{contains};
-ghost use Rattle.bars.specs.MergedBars.{unitedBar, mergedUpBar, mergedDownBar, removeIncludeBar, removeIncludeAfter, inPlaceOf, withElement};
+ghost use Rattle.bars.specs.Code.MergedBars.{unitedBar, mergedUpBar, mergedDownBar, removeIncludeBar, removeIncludeAfter, inPlaceOf, withElement};
 use crate::Bar;
 use crate::NewBar;
 

@@ -1,9 +1,17 @@
 // Questions 5 to 9 of document 01, asked of a bar that is fed. Each is answered for every bar there is, with NaN,
 // infinities and minus zero among its floats.
 ghost use mathlib.Core.Path.{_≡_};
+ghost use mathlib.Core.Bool.{_&&_};
 ghost use mathlib.Core.Option.{none};
 ghost use Rattle.bars.specs.Questions.{question5, question6, question7, question8, isPrice, fromZero, isVolume, firstFailed, firstFailedAfter};
 use crate::Bar;
+
+// Two tests as flags, without a branch.
+pub fn both(a: bool, b: bool) -> bool
+    ensures { λ r. ⌜ r ≡ (a && b) ⌝ }
+{
+    a & b
+}
 
 // Question 5: time from -2^40 to 2^40?
 pub fn time_in_range(b: Bar) -> bool
@@ -17,13 +25,10 @@ pub fn time_in_range(b: Bar) -> bool
 }
 
 // A price from 2^-20 to 2^30.
-fn is_price(x: f64) -> bool
+pub fn is_price(x: f64) -> bool
     ensures { λ r. ⌜ r ≡ isPrice x ⌝ }
 {
-    if 0.00000095367431640625 <= x {
-        return x <= 1073741824.0;
-    }
-    false
+    both(0.00000095367431640625 <= x, x <= 1073741824.0)
 }
 
 // Question 6: all four prices from 2^-20 to 2^30?
@@ -42,27 +47,18 @@ pub fn prices_in_range(b: Bar) -> bool
     is_price(b.low)
 }
 
-// Zero or more, and no minus zero, whose reciprocal is the negative infinity.
-fn from_zero(x: f64) -> bool
+// Zero or more, and no minus zero, whose reciprocal is below zero.
+pub fn from_zero(x: f64) -> bool
     ensures { λ r. ⌜ r ≡ fromZero x ⌝ }
 {
-    if 0.0 < x {
-        return true;
-    }
-    if 0.0 == x {
-        return 0.0 < 1.0 / x;
-    }
-    false
+    both(0.0 <= x, 0.0 <= 1.0 / x)
 }
 
 // A volume or an amount from 0 to 2^50.
-fn is_volume(x: f64) -> bool
+pub fn is_volume(x: f64) -> bool
     ensures { λ r. ⌜ r ≡ isVolume x ⌝ }
 {
-    if from_zero(x) {
-        return x <= 1125899906842624.0;
-    }
-    false
+    both(from_zero(x), x <= 1125899906842624.0)
 }
 
 // Question 7: vol and amount from 0 to 2^50, minus zero barred?

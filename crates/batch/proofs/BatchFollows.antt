@@ -15,13 +15,16 @@ use Rattle.machine.specs.Soundness.{countsFit, listsSound, settingsSound, sound
 use Rattle.machine.specs.Calls.{calls}
 use Rattle.machine.proofs.ReachedSound.{reached-sound}
 use Rattle.strokes.specs.declared.Stand.{Stand}
-use Rattle.strokes.specs.Stored.{Stores, settingsOf, stateOf, storesSized, sized, bareState}
+use Rattle.strokes.specs.StateRead.{settingsOf, stateOf, storesSized, sized, bareState}
+use Rattle.strokes.specs.Lent.{Stores}
 use Rattle.strokes.proofs.BareSound.{bare-sound}
 use Rattle.sound.specs.FreshStand.{freshOf}
-use Rattle.sound.specs.Question4.{question4}
+use Rattle.question4.specs.Question4.{question4}
+use Rattle.sound.specs.StandSound.{storesSound}
 use Rattle.sound.proofs.FreshLaws.{fresh-sound}
 use Rattle.feed.specs.PortCalls.{FeedIs, added, PortCalls, none, call, acceptedIf, acceptedOf, FreshCalls, begun}
-use Rattle.batch.specs.BatchCalls.{AllAccepted, NewestAsked, Begun}
+use Rattle.batch.specs.BatchCalls.{AllAccepted}
+use Rattle.batch.specs.Code.BatchSteps.{NewestAsked, Begun}
 use Rattle.feed.proofs.PortFollows.{added-assoc, added-none, none-added}
 use Rattle.feed.proofs.PortStays.{settings-stay, sizes-stay}
 use Rattle.feed.proofs.PortDemand3.{port-demand3}
@@ -91,7 +94,7 @@ asks-newest c x h = bare-sound c x ∙ ap (λ (t : Bool). t && newestLast x) (is
 
 pub reached-asks : (r : FreshCalls) → (freshOf (r .minimum) (r .most) (r .rooms)) .refused ≡ 0 → storesSized (begun r) (r .lent) ≡ true
     → question4 (r .stand) (r .stores) ≡ newestLast (stateOf (r .stand) (r .stores))
-unfolding question4
+unfolding question4 storesSound
 reached-asks r z h =
     let c = settingsOf (begun r) in
     let f = fresh-passes (begun r) (r .lent) (fresh-sound (r .minimum) (r .most) (r .rooms) (r .lent) z h) in

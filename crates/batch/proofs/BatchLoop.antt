@@ -10,10 +10,9 @@ use lib.Seq.{take-suc, drop-cons, drop-length}
 use lib.Dec.{T}
 use lib.Ieee.{Float}
 use Rattle.bars.specs.declared.Bar.{Bar}
-use Rattle.stores.specs.Stores.{RawStore, RoomRaw, zipWith, barOf, rawBars, barAt}
+use Rattle.stores.specs.Stores.{RawStore, zipWith, barOf, rawBars}
+use Rattle.stores.specs.Code.StoreRows.{RoomRaw, barAt}
 use Rattle.stores.proofs.Columns.{raw-at}
-use Rattle.machine.specs.Stand.{Settings}
-use Rattle.machine.specs.Feed.{Events}
 use Rattle.machine.specs.Soundness.{newestLast}
 use Rattle.machine.specs.FeedQuestions.{orElse, failedAfter4}
 use Rattle.machine.specs.Calls.{none-yet}
@@ -21,14 +20,16 @@ use Rattle.machine.specs.Reached.{OneEach}
 use Rattle.machine.proofs.ReachedSound.{reached-sound}
 use Rattle.strokes.specs.declared.Rooms.{Rooms}
 use Rattle.strokes.specs.declared.Stand.{Stand}
-use Rattle.strokes.specs.Stored.{Stores, settingsOf, stateOf, storesSized, sized}
+use Rattle.strokes.specs.StateRead.{settingsOf, stateOf, storesSized, sized}
+use Rattle.strokes.specs.Lent.{Stores}
 use Rattle.sound.specs.declared.fresh_stand.FreshAnswer.{FreshAnswer}
 use Rattle.sound.specs.FreshStand.{freshOf}
-use Rattle.sound.specs.Question4.{IsSound}
-use Rattle.sound.proofs.SoundFacts.{is-sound}
+use Rattle.sound.specs.StandSound.{IsSound}
+use Rattle.question4.proofs.Question4Passed.{is-sound}
 use Rattle.batch.specs.declared.batch.BatchAnswer.{BatchAnswer}
-use Rattle.feed.specs.PortCalls.{failedBy, FeedIs, added, PortCalls, none, acceptedOf}
-use Rattle.batch.specs.BatchCalls.{AllAccepted, BatchFed, BatchIs, NewestAsked, Begun, CanBatch, CanNext, NextIs, CanAdvance, advanced, leftOf}
+use Rattle.feed.specs.PortCalls.{failedBy, FeedIs, added, none, acceptedOf}
+use Rattle.batch.specs.BatchCalls.{AllAccepted, BatchFed, BatchIs}
+use Rattle.batch.specs.Code.BatchSteps.{NewestAsked, Begun, CanBatch, CanNext, NextIs, CanAdvance, advanced, leftOf}
 use Rattle.feed.proofs.PortFollows.{refused-4}
 use Rattle.feed.proofs.SameLengths.{SameLengths}
 use Rattle.feed.proofs.PortStays.{calls-lengths}

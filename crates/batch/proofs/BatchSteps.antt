@@ -9,15 +9,17 @@ use Rattle.bars.specs.declared.Bar.{Bar}
 use Rattle.stores.specs.Stores.{RawStore, rawBars}
 use Rattle.strokes.specs.declared.Rooms.{Rooms}
 use Rattle.strokes.specs.declared.Stand.{Stand}
-use Rattle.strokes.specs.Stored.{Stores, storesSized}
+use Rattle.strokes.specs.StateRead.{storesSized}
+use Rattle.strokes.specs.Lent.{Stores}
 use Rattle.sound.specs.declared.fresh_stand.FreshAnswer.{FreshAnswer}
 use Rattle.sound.specs.FreshStand.{freshOf}
-use Rattle.sound.specs.Question4.{IsSound}
-use Rattle.sound.specs.NewestBar.{NewestRoom, NewestIs}
+use Rattle.sound.specs.StandSound.{IsSound}
+use Rattle.sound.specs.Code.NewestBar.{NewestRoom, NewestIs}
 use Rattle.sound.proofs.NewestLaws.{newest-room}
 use Rattle.batch.specs.declared.batch.BatchAnswer.{BatchAnswer}
 use Rattle.feed.specs.PortCalls.{FeedIs, none, call}
-use Rattle.batch.specs.BatchCalls.{BatchFed, BatchIs, NewestAsked, CanBatch, NextIs, advanced, leftOf}
+use Rattle.batch.specs.BatchCalls.{BatchFed, BatchIs}
+use Rattle.batch.specs.Code.BatchSteps.{NewestAsked, CanBatch, NextIs, advanced, leftOf}
 use Rattle.batch.proofs.BatchFollows.{begun-asks}
 use Rattle.feed.proofs.SameLengths.{SameLengths}
 use Rattle.feed.proofs.PortStays.{calls-lengths}

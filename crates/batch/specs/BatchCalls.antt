@@ -1,22 +1,17 @@
 -- The batch call: a list of bars fed to a fresh analyzer, one by one, up to the first that is refused. It is a list of feed calls that were all accepted, and
 -- its answers are theirs, added up. Definitions only.
-use Prim.Native.Nat.{ℕ, zero, suc, _+_, _-_, _≤_, _<_}
+use Prim.Native.Nat.{ℕ, _-_, _<_}
 use mathlib.Core.Path.{_≡_}
-use mathlib.Core.Bool.{true}
 use mathlib.Core.List.{List, _∷_}
 use lib.ListN.{length, take, drop}
-use lib.Dec.{T}
 use Rattle.bars.specs.declared.Bar.{Bar}
-use Rattle.stores.specs.Stores.{RawStore, RoomRaw, rawBars}
 use Rattle.machine.specs.Feed.{Events}
-use Rattle.machine.specs.Soundness.{newestLast}
 use Rattle.strokes.specs.declared.Rooms.{Rooms}
 use Rattle.strokes.specs.declared.Stand.{Stand}
-use Rattle.strokes.specs.Stored.{Stores, stateOf, storesSized, sized}
+use Rattle.strokes.specs.Lent.{Stores}
 use Rattle.sound.specs.FreshStand.{freshOf}
-use Rattle.sound.specs.Question4.{question4}
 use Rattle.batch.specs.declared.batch.BatchAnswer.{BatchAnswer}
-use Rattle.feed.specs.PortCalls.{failedBy, FeedIs, PortCalls, acceptedOf, FreshCalls}
+use Rattle.feed.specs.PortCalls.{failedBy, PortCalls, acceptedOf, FreshCalls}
 
 -- a list of feed calls, none of which is refused
 pub record AllAccepted (s : Stand) (m : Stores) (bs : List Bar) (e : Events) (t : Stand) (k : Stores) : Type 0 where
@@ -62,63 +57,3 @@ callsOf minimum most rooms {m = m} {m' = m'} {bars = bars} {r = r} f =
       stores = m';
       calls = f .fed .calls;
     }
-
--- ---- what its steps may count on
-
--- the lengths and counts fit, and of question 4 the clause on the newest raw bar is the only one in doubt
-pub record NewestAsked (s : Stand) (m : Stores) : Type 0 where
-  pub sizes : T (sized s m)
-  pub question : question4 s m ≡ newestLast (stateOf s m)
-
--- a fresh analyzer that was not refused, with stores of the recorded lengths
-pub record Begun (s : Stand) (m : Stores) : Type 0 where
-  pub minimum : ℕ
-  pub most : ℕ
-  pub rooms : Rooms
-  pub answered : (freshOf minimum most rooms) .refused ≡ 0
-  pub stand : (freshOf minimum most rooms) .stand ≡ s
-  pub stores : storesSized s m ≡ true
-
--- .. and n bars to feed
-pub record CanBatch (s : Stand) (m : Stores) (bars : RawStore) (n : ℕ) : Type 0 where
-  pub begun : Begun s m
-  pub room : RoomRaw bars n
-  pub count : length (rawBars bars) ≡ n
-
--- the answer r so far with that of one more bar: by its number, what it made, broke and shed, and the stand that it left
-unfoldable pub advanced : ℕ → BatchAnswer → ℕ → ℕ → ℕ → Stand → BatchAnswer
-advanced zero r made broken shed t =
-    record { stand = t; fed = r .fed + 1; failed = 0; made = r .made + made; broken = r .broken + broken; shed = r .shed + shed }
-advanced (suc n) r made broken shed t =
-    record { stand = r .stand; fed = r .fed; failed = suc n; made = r .made; broken = r .broken; shed = r .shed }
-
--- how many of n bars are left after i of them: none, once one was refused
-unfoldable pub leftOf : ℕ → ℕ → ℕ → ℕ
-leftOf zero n i = n - i
-leftOf (suc k) n i = 0
-
--- the answer with one more bar, of the number n, and a, b and c strokes made, broken and shed: no sum is too large
-pub record CanAdvance (r : BatchAnswer) (n a b c : ℕ) : Type 0 where
-  pub fed : r .fed < 18446744073709551615
-  pub made : n ≡ 0 → r .made + a ≤ 18446744073709551615
-  pub broken : n ≡ 0 → r .broken + b ≤ 18446744073709551615
-  pub shed : n ≡ 0 → r .shed + c ≤ 18446744073709551615
-
--- one more bar stands in the columns and can be counted, and no more strokes were counted than bars fed
-pub record CanNext (r : BatchAnswer) (k : Stores) (bars : RawStore) : Type 0 where
-  pub asked : NewestAsked (r .stand) k
-  pub room : RoomRaw bars (r .fed + 1)
-  pub few : r .fed < 18446744073709551615
-  pub few-made : r .made ≤ r .fed
-  pub few-broken : r .broken ≤ r .fed
-  pub few-shed : r .shed ≤ r .fed
-
--- r' is the answer r with that of the feed of the bar b
-pub record NextIs (r : BatchAnswer) (k : Stores) (b : Bar) (r' : BatchAnswer) (k' : Stores) : Type 0 where
-  pub failed : ℕ
-  pub made : ℕ
-  pub broken : ℕ
-  pub shed : ℕ
-  pub stand : Stand
-  pub feed : FeedIs (r .stand) k b failed made broken shed stand k'
-  pub next : r' ≡ advanced failed r made broken shed stand

@@ -1,1 +1,2 @@
 pub mod BatchCalls
+pub mod Code

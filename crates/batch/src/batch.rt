@@ -2,11 +2,13 @@
 ghost use mathlib.Core.Path.{_≡_};
 ghost use Prim.Native.Nat.{min};
 ghost use lib.ListN.{length};
-ghost use Rattle.stores.specs.Stores.{rawStore, mergedStore, rawBars, barAt};
-ghost use Rattle.strokes.specs.Stored.{fractalStore};
-ghost use Rattle.sound.specs.SoundStand.{storesOf};
+ghost use Rattle.stores.specs.Stores.{rawBars};
+ghost use Rattle.stores.specs.Code.StoreRows.{barAt};
+ghost use Rattle.strokes.specs.Lent.{held, before, after};
 ghost use Rattle.feed.specs.PortCalls.{FeedIs};
-ghost use Rattle.batch.specs.BatchCalls.{BatchIs, BatchFed, NewestAsked, CanBatch, CanNext, NextIs, CanAdvance, advanced, leftOf};
+ghost use Rattle.batch.specs.BatchCalls.{BatchIs, BatchFed};
+ghost use Rattle.batch.specs.Code.BatchSteps.{NewestAsked, CanBatch, CanNext, NextIs, CanAdvance, advanced, leftOf};
+ghost use Rattle.stores.specs.Lent.{rawHeld, rawBefore};
 use bars::Bar;
 use feed::FeedAnswer;
 use feed::feed_sound;
@@ -45,8 +47,8 @@ fn feed_newest(
     fp: &mut [[f64; 18]],
     b: Bar,
 ) -> FeedAnswer
-    requires { ⌜ NewestAsked stand (storesOf (rawStore (now rt) (now ri) (now rp)) (mergedStore (now ut) (now ui) (now up) (now uc) (now ue)) (mergedStore (now st) (now si) (now sp) (now sc) (now se)) (fractalStore (now fs) (now fp))) ⌝ }
-    ensures { λ r. ⌜ FeedIs stand (storesOf (rawStore (now (rt .entry)) (now (ri .entry)) (now (rp .entry))) (mergedStore (now (ut .entry)) (now (ui .entry)) (now (up .entry)) (now (uc .entry)) (now (ue .entry))) (mergedStore (now (st .entry)) (now (si .entry)) (now (sp .entry)) (now (sc .entry)) (now (se .entry))) (fractalStore (now (fs .entry)) (now (fp .entry)))) b (r .failed) (r .made) (r .broken) (r .shed) (r .stand) (storesOf (rawStore (now (rt .exit)) (now (ri .exit)) (now (rp .exit))) (mergedStore (now (ut .exit)) (now (ui .exit)) (now (up .exit)) (now (uc .exit)) (now (ue .exit))) (mergedStore (now (st .exit)) (now (si .exit)) (now (sp .exit)) (now (sc .exit)) (now (se .exit))) (fractalStore (now (fs .exit)) (now (fp .exit)))) ⌝ }
+    requires { ⌜ NewestAsked stand (held rt ri rp ut ui up uc ue st si sp sc se fs fp) ⌝ }
+    ensures { λ r. ⌜ FeedIs stand (before rt ri rp ut ui up uc ue st si sp sc se fs fp) b (r .failed) (r .made) (r .broken) (r .shed) (r .stand) (after rt ri rp ut ui up uc ue st si sp sc se fs fp) ⌝ }
 {
     if sound::newest_is_last(stand, rt, uc, ue) {
         return feed_sound(
@@ -127,8 +129,8 @@ fn feed_next(
     bi: &[i32],
     bp: &[[f64; 6]],
 ) -> BatchAnswer
-    requires { ⌜ CanNext r (storesOf (rawStore (now rt) (now ri) (now rp)) (mergedStore (now ut) (now ui) (now up) (now uc) (now ue)) (mergedStore (now st) (now si) (now sp) (now sc) (now se)) (fractalStore (now fs) (now fp))) (rawStore (now bt) (now bi) (now bp)) ⌝ }
-    ensures { λ s. ⌜ NextIs r (storesOf (rawStore (now (rt .entry)) (now (ri .entry)) (now (rp .entry))) (mergedStore (now (ut .entry)) (now (ui .entry)) (now (up .entry)) (now (uc .entry)) (now (ue .entry))) (mergedStore (now (st .entry)) (now (si .entry)) (now (sp .entry)) (now (sc .entry)) (now (se .entry))) (fractalStore (now (fs .entry)) (now (fp .entry)))) (barAt (rawStore (now (bt .entry)) (now (bi .entry)) (now (bp .entry))) (r .fed)) s (storesOf (rawStore (now (rt .exit)) (now (ri .exit)) (now (rp .exit))) (mergedStore (now (ut .exit)) (now (ui .exit)) (now (up .exit)) (now (uc .exit)) (now (ue .exit))) (mergedStore (now (st .exit)) (now (si .exit)) (now (sp .exit)) (now (sc .exit)) (now (se .exit))) (fractalStore (now (fs .exit)) (now (fp .exit)))) ⌝ }
+    requires { ⌜ CanNext r (held rt ri rp ut ui up uc ue st si sp sc se fs fp) (rawHeld bt bi bp) ⌝ }
+    ensures { λ s. ⌜ NextIs r (before rt ri rp ut ui up uc ue st si sp sc se fs fp) (barAt (rawBefore bt bi bp) (r .fed)) s (after rt ri rp ut ui up uc ue st si sp sc se fs fp) ⌝ }
 {
     let at = r.fed;
     let stand = r.stand;
@@ -192,8 +194,8 @@ fn feed_from(
     bp: &[[f64; 6]],
     n: usize,
 ) -> BatchAnswer
-    requires { ⌜ CanBatch stand (storesOf (rawStore (now rt) (now ri) (now rp)) (mergedStore (now ut) (now ui) (now up) (now uc) (now ue)) (mergedStore (now st) (now si) (now sp) (now sc) (now se)) (fractalStore (now fs) (now fp))) (rawStore (now bt) (now bi) (now bp)) n ⌝ }
-    ensures { λ r. ⌜ BatchFed stand (storesOf (rawStore (now (rt .entry)) (now (ri .entry)) (now (rp .entry))) (mergedStore (now (ut .entry)) (now (ui .entry)) (now (up .entry)) (now (uc .entry)) (now (ue .entry))) (mergedStore (now (st .entry)) (now (si .entry)) (now (sp .entry)) (now (sc .entry)) (now (se .entry))) (fractalStore (now (fs .entry)) (now (fp .entry)))) (rawBars (rawStore (now (bt .entry)) (now (bi .entry)) (now (bp .entry)))) r (storesOf (rawStore (now (rt .exit)) (now (ri .exit)) (now (rp .exit))) (mergedStore (now (ut .exit)) (now (ui .exit)) (now (up .exit)) (now (uc .exit)) (now (ue .exit))) (mergedStore (now (st .exit)) (now (si .exit)) (now (sp .exit)) (now (sc .exit)) (now (se .exit))) (fractalStore (now (fs .exit)) (now (fp .exit)))) ⌝ }
+    requires { ⌜ CanBatch stand (held rt ri rp ut ui up uc ue st si sp sc se fs fp) (rawHeld bt bi bp) n ⌝ }
+    ensures { λ r. ⌜ BatchFed stand (before rt ri rp ut ui up uc ue st si sp sc se fs fp) (rawBars (rawBefore bt bi bp)) r (after rt ri rp ut ui up uc ue st si sp sc se fs fp) ⌝ }
 {
     let mut r = BatchAnswer {
         stand,
@@ -266,7 +268,7 @@ pub fn feed_all(
     bi: &[i32],
     bp: &[[f64; 6]],
 ) -> BatchAnswer
-    ensures { λ r. ⌜ BatchIs minimum most rooms (storesOf (rawStore (now (rt .entry)) (now (ri .entry)) (now (rp .entry))) (mergedStore (now (ut .entry)) (now (ui .entry)) (now (up .entry)) (now (uc .entry)) (now (ue .entry))) (mergedStore (now (st .entry)) (now (si .entry)) (now (sp .entry)) (now (sc .entry)) (now (se .entry))) (fractalStore (now (fs .entry)) (now (fp .entry)))) (rawBars (rawStore (now (bt .entry)) (now (bi .entry)) (now (bp .entry)))) r (storesOf (rawStore (now (rt .exit)) (now (ri .exit)) (now (rp .exit))) (mergedStore (now (ut .exit)) (now (ui .exit)) (now (up .exit)) (now (uc .exit)) (now (ue .exit))) (mergedStore (now (st .exit)) (now (si .exit)) (now (sp .exit)) (now (sc .exit)) (now (se .exit))) (fractalStore (now (fs .exit)) (now (fp .exit)))) ⌝ }
+    ensures { λ r. ⌜ BatchIs minimum most rooms (before rt ri rp ut ui up uc ue st si sp sc se fs fp) (rawBars (rawBefore bt bi bp)) r (after rt ri rp ut ui up uc ue st si sp sc se fs fp) ⌝ }
 {
     let a = sound::fresh(minimum, most, rooms);
     let stand = a.stand;

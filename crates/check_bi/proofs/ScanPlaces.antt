@@ -14,16 +14,15 @@ use lib.Signed.{ltZ}
 use lib.Dec.{T, eqb, leb, leb→le, le→leb, eqb·suc-zero}
 use lib.Ieee.{Float, lt}
 use Rattle.bars.specs.Bars.{Merged}
-use Rattle.bars.specs.Lists.{All, keepIf, foldl}
+use Rattle.bars.specs.Lists.{All, keepIf, foldLeft}
 use Rattle.machine.specs.declared.Mark.{Mark}
 use Rattle.machine.specs.declared.Mark.the-variants.{D, G}
-use Rattle.check_bi.specs.declared.scan.Candle.{Candle}
-use Rattle.check_bi.specs.declared.scan.Fx.{Fx}
+use Rattle.check_bi.specs.declared.check_fx.Fx.{Fx}
 use Rattle.check_bi.specs.declared.scan.Scan.{Scan}
 use Rattle.check_bi.specs.declared.scan.FoundBi.{FoundBi}
-use Rattle.machine.specs.Fractals.{Fractal, Placed, timeOf, fxOf, sameMark, beyond, isTop, isBottom, checkFx, taken, placedIf, placedBy, placedAfter, placedFxs, fxsAfter, checkFxs}
-use Rattle.machine.specs.Strokes.{Stroke, Found, candidate, bestIf, best, endOf, startBest, holds, fitsMin, strokeAt, madeAt, foundTo, foundIn, checkBi, cutTo, cut}
-use Rattle.check_bi.specs.Scan.{candleOf, fxAt, fxPlaced, valueIn, valueOf, topOf, bottomOf, candidateOf, cutWith, closesIf, closesOf, uptoIf, uptoWith, putIf, putOf, noFx, blank, openedOf, takeIf, takeOf, stepIf, stepOf, scanFrom, scanOf, holdsOf, barsTo, foundIf, foundOf}
+use Rattle.machine.specs.Fractals.{Fractal, Placed, timeOf, fxOf, sameMark, beyond, isTop, isBottom, checkFx, taken, placedIf, placedBy, placedAfter, placedFxs, checkFxs}
+use Rattle.machine.specs.Strokes.{Found, candidate, bestIf, best, endOf, startBest, holds, fitsMin, strokeAt, madeAt, foundTo, foundIn, checkBi, cutTo, cut}
+use Rattle.check_bi.specs.Code.Scan.{candleOf, fxAt, fxPlaced, valueIn, valueOf, topOf, bottomOf, candidateOf, cutWith, closesIf, closesOf, uptoIf, uptoWith, putIf, putOf, noFx, blank, openedOf, takeIf, takeOf, stepIf, stepOf, scanFrom, scanOf, holdsOf, barsTo, foundIf, foundOf}
 use Rattle.machine.proofs.Lists.{keep-yes, keep-no, All-map, All-keep}
 use Rattle.machine.proofs.Places.{fractal, placed-are, Ascend, placed-ascend, ascend-weaken, Holds, end-all}
 use Rattle.machine.proofs.FewerFractals.{nothingFound, candidateAt, MadeFrom, not-itself}
@@ -34,9 +33,9 @@ abbrev pub put : Scan → Placed → Scan
 put s q = putOf s (fxPlaced q)
 
 unfoldable pub seenOf : List Placed → Scan
-unfolding foldl
+unfolding foldLeft
 seenOf [] = blank
-seenOf (q ∷ qs) = foldl put (openedOf (fxPlaced q)) qs
+seenOf (q ∷ qs) = foldLeft put (openedOf (fxPlaced q)) qs
 
 more : (n : ℕ) → eqb (n + 1) 0 ≡ false
 more n = rw add-one (eqb·suc-zero n)
@@ -66,12 +65,12 @@ last-mark s q = (puts s (fxPlaced q)) .last
 
 -- how a scan goes on: k is the scan of the later windows, rest their fractals
 abbrev GoesOn : (Scan → Scan) → (Option Mark → List Placed) → Type 0
-GoesOn k rest = (s : Scan) → eqb (s .count) 0 ≡ false → k s ≡ foldl put s (rest (some (s .last)))
+GoesOn k rest = (s : Scan) → eqb (s .count) 0 ≡ false → k s ≡ foldLeft put s (rest (some (s .last)))
 
 fold-if : (x : Bool) (s : Scan) (i : ℕ) (f : Fractal) (k : Scan → Scan) (rest : Option Mark → List Placed) → sameMark (s .last) (f .mark) ≡ x
     → eqb (s .count) 0 ≡ false → GoesOn k rest
-    → k (takeIf (eqb (s .count) 0) x s (fxPlaced (record { place = i; fractal = f }))) ≡ foldl put s (placedIf (not x) i f (some (s .last)) rest)
-unfolding takeIf placedIf foldl
+    → k (takeIf (eqb (s .count) 0) x s (fxPlaced (record { place = i; fractal = f }))) ≡ foldLeft put s (placedIf (not x) i f (some (s .last)) rest)
+unfolding takeIf placedIf foldLeft
 fold-if true s i f k rest h n g =
     let q = fxPlaced (record { place = i; fractal = f }) in
     ap (λ (z : Bool). k (takeIf z true s q)) n ∙ g s n
@@ -79,10 +78,10 @@ fold-if false s i f k rest h n g =
     let q = fxPlaced (record { place = i; fractal = f }) in
     ap (λ (z : Bool). k (takeIf z false s q)) n
     ∙ g (putOf s q) (put-some s q)
-    ∙ ap (λ (m : Mark). foldl put (putOf s q) (rest (some m))) (last-mark s (record { place = i; fractal = f }))
+    ∙ ap (λ (m : Mark). foldLeft put (putOf s q) (rest (some m))) (last-mark s (record { place = i; fractal = f }))
 
 fold-take : (s : Scan) (i : ℕ) (f : Fractal) (k : Scan → Scan) (rest : Option Mark → List Placed) → eqb (s .count) 0 ≡ false → GoesOn k rest
-    → k (takeOf s (fxPlaced (record { place = i; fractal = f }))) ≡ foldl put s (placedIf (taken (some (s .last)) (f .mark)) i f (some (s .last)) rest)
+    → k (takeOf s (fxPlaced (record { place = i; fractal = f }))) ≡ foldLeft put s (placedIf (taken (some (s .last)) (f .mark)) i f (some (s .last)) rest)
 unfolding takeOf taken fxPlaced fxAt
 fold-take s i f k rest n g = fold-if (sameMark (s .last) (f .mark)) s i f k rest refl n g
 
@@ -90,21 +89,21 @@ abbrev window : Mark → Merged → Merged → Merged → Fractal
 window m a b c = record { mark = m; left = a; mid = b; right = c }
 
 fold-by : (t u : Bool) (s : Scan) (i : ℕ) (a b c : Merged) (k : Scan → Scan) (rest : Option Mark → List Placed) → eqb (s .count) 0 ≡ false → GoesOn k rest
-    → k (stepIf t u s i (candleOf b)) ≡ foldl put s (placedBy (some (s .last)) i (cond t (some (window G a b c)) (cond u (some (window D a b c)) none)) rest)
+    → k (stepIf t u s i (candleOf b)) ≡ foldLeft put s (placedBy (some (s .last)) i (cond t (some (window G a b c)) (cond u (some (window D a b c)) none)) rest)
 unfolding stepIf placedBy fxPlaced
 fold-by true u s i a b c k rest n g = fold-take s i (window G a b c) k rest n g
 fold-by false true s i a b c k rest n g = fold-take s i (window D a b c) k rest n g
 fold-by false false s i a b c k rest n g = g s n
 
 scan-on : (i : ℕ) (a b : Merged) (r : List Merged) (s : Scan) → eqb (s .count) 0 ≡ false
-    → scanFrom i s (candleOf a) (candleOf b) (map candleOf r) ≡ foldl put s (placedAfter (some (s .last)) i (a ∷ b ∷ r))
-unfolding scanFrom placedAfter foldl stepOf topOf bottomOf isTop isBottom checkFx candleOf
+    → scanFrom i s (candleOf a) (candleOf b) (map candleOf r) ≡ foldLeft put s (placedAfter (some (s .last)) i (a ∷ b ∷ r))
+unfolding scanFrom placedAfter foldLeft stepOf topOf bottomOf isTop isBottom checkFx candleOf
 scan-on i a b [] s n = refl
 scan-on i a b (c ∷ r) s n =
     let e : i + 1 ≡ suc i = omega arith in
     fold-by (isTop (a .bar) (b .bar) (c .bar)) (isBottom (a .bar) (b .bar) (c .bar)) s i a b c
     (λ z. scanFrom (i + 1) z (candleOf b) (candleOf c) (map candleOf r)) (λ q. placedAfter q (suc i) (b ∷ c ∷ r)) n
-    (λ z m. scan-on (i + 1) b c r z m ∙ ap (λ (j : ℕ). foldl put z (placedAfter (some (z .last)) j (b ∷ c ∷ r))) e)
+    (λ z m. scan-on (i + 1) b c r z m ∙ ap (λ (j : ℕ). foldLeft put z (placedAfter (some (z .last)) j (b ∷ c ∷ r))) e)
 
 first-by : (t u : Bool) (i : ℕ) (a b c : Merged) (k : Scan → Scan) (rest : Option Mark → List Placed) → GoesOn k rest → k blank ≡ seenOf (rest none)
     → k (stepIf t u blank i (candleOf b)) ≡ seenOf (placedBy none i (cond t (some (window G a b c)) (cond u (some (window D a b c)) none)) rest)
@@ -120,7 +119,7 @@ scan-first i a b (c ∷ r) =
     let e : i + 1 ≡ suc i = omega arith in
     first-by (isTop (a .bar) (b .bar) (c .bar)) (isBottom (a .bar) (b .bar) (c .bar)) i a b c
     (λ z. scanFrom (i + 1) z (candleOf b) (candleOf c) (map candleOf r)) (λ q. placedAfter q (suc i) (b ∷ c ∷ r))
-    (λ z m. scan-on (i + 1) b c r z m ∙ ap (λ (j : ℕ). foldl put z (placedAfter (some (z .last)) j (b ∷ c ∷ r))) e)
+    (λ z m. scan-on (i + 1) b c r z m ∙ ap (λ (j : ℕ). foldLeft put z (placedAfter (some (z .last)) j (b ∷ c ∷ r))) e)
     (scan-first (i + 1) b c r ∙ ap (λ (j : ℕ). seenOf (placedAfter none j (b ∷ c ∷ r))) e)
 
 pub scan-is : (l : List Merged) → scanOf (map candleOf l) ≡ seenOf (placedFxs l)
@@ -175,20 +174,20 @@ cut-is a f =
 
 -- ---- the cut
 
-pub cut-fold : (qs : List Placed) (s : Scan) (c : Placed) → s .cut ≡ fxPlaced c → (foldl put s qs) .cut ≡ fxPlaced (startBest fractal c qs)
-unfolding foldl startBest
+pub cut-fold : (qs : List Placed) (s : Scan) (c : Placed) → s .cut ≡ fxPlaced c → (foldLeft put s qs) .cut ≡ fxPlaced (startBest fractal c qs)
+unfolding foldLeft startBest
 cut-fold [] s c h = h
 cut-fold (q ∷ qs) s c h =
     let t = sameMark (c .fractal .mark) (q .fractal .mark) && not (beyond (c .fractal .mark) (fxOf (c .fractal)) (fxOf (q .fractal))) in
     cut-fold qs (put s q) (bestIf t q c) ((puts s (fxPlaced q)) .cut ∙ ap (λ (z : Fx). cutWith z (fxPlaced q)) h ∙ cut-is c q)
 
-pub start-fold : (qs : List Placed) (s : Scan) → (foldl put s qs) .start ≡ s .start
-unfolding foldl
+pub start-fold : (qs : List Placed) (s : Scan) → (foldLeft put s qs) .start ≡ s .start
+unfolding foldLeft
 start-fold [] s = refl
 start-fold (q ∷ qs) s = start-fold qs (put s q) ∙ (puts s (fxPlaced q)) .start
 
-pub count-fold : (qs : List Placed) (s : Scan) → (foldl put s qs) .count ≡ s .count + length qs
-unfolding foldl
+pub count-fold : (qs : List Placed) (s : Scan) → (foldLeft put s qs) .count ≡ s .count + length qs
+unfolding foldLeft
 count-fold [] s = omega arith
 count-fold (q ∷ qs) s = omega (arith, count-fold qs (put s q), (puts s (fxPlaced q)) .count)
 
@@ -247,8 +246,8 @@ unfolding closing candidate
 endsWith st o [] = o
 endsWith st o (q ∷ qs) = endsWith st (closing (candidateAt st q) o q) qs
 
-ends-fold : (st : Placed) (qs : List Placed) (s : Scan) (o : Option Placed) → s .start ≡ fxPlaced st → Ends s o → Ends (foldl put s qs) (endsWith st o qs)
-unfolding foldl endsWith
+ends-fold : (st : Placed) (qs : List Placed) (s : Scan) (o : Option Placed) → s .start ≡ fxPlaced st → Ends s o → Ends (foldLeft put s qs) (endsWith st o qs)
+unfolding foldLeft endsWith
 ends-fold st [] s o e h = h
 ends-fold st (q ∷ qs) s o e h = ends-fold st qs (put s q) (closing (candidateAt st q) o q) ((puts s (fxPlaced q)) .start ∙ e) (ends-put s st o q e h)
 
@@ -275,8 +274,8 @@ unfolding endsWith keepIf endOf
 one-pass st [] = refl
 one-pass st (q ∷ qs) = none-pass (candidateAt st q) st q qs (keepIf (candidateAt st) qs) (λ z. ends-best-of st z qs) (one-pass st qs)
 
-pub end-fold : (st : Placed) (qs : List Placed) (s : Scan) → s .start ≡ fxPlaced st → s .found ≡ false → Ends (foldl put s qs) (endOf fractal (keepIf (candidateAt st) qs))
-end-fold st qs s e h = subst (Ends (foldl put s qs)) (one-pass st qs) (ends-fold st qs s none e h)
+pub end-fold : (st : Placed) (qs : List Placed) (s : Scan) → s .start ≡ fxPlaced st → s .found ≡ false → Ends (foldLeft put s qs) (endOf fractal (keepIf (candidateAt st) qs))
+end-fold st qs s e h = subst (Ends (foldLeft put s qs)) (one-pass st qs) (ends-fold st qs s none e h)
 
 -- ---- the number of the stroke's fractals
 
@@ -352,12 +351,12 @@ upto-put : (s : Scan) (ps : List Placed) (q : Placed) → Upto s ps → All (λ 
 unfolding putOf
 upto-put s ps q h a = upto-if (closesOf s (fxPlaced q)) s ps q h a
 
-upto-fold : (lo n : ℕ) (qs : List Placed) (s : Scan) (ps : List Placed) → Upto s ps → All (λ x. x .place < lo) ps → Ascend lo n qs → Upto (foldl put s qs) (ps ++ qs)
-unfolding foldl
+upto-fold : (lo n : ℕ) (qs : List Placed) (s : Scan) (ps : List Placed) → Upto s ps → All (λ x. x .place < lo) ps → Ascend lo n qs → Upto (foldLeft put s qs) (ps ++ qs)
+unfolding foldLeft
 upto-fold lo n [] s ps h a b = subst (Upto s) (sym (append-nil ps)) h
 upto-fold lo n (q ∷ qs) s ps h a b =
     let c : All (λ (x : Placed). x .place ≤ q .place) ps = All-map ps (λ x k. omega (arith, b .0)) a in
-    subst (Upto (foldl put (put s q) qs)) (append-assoc ps (q ∷ []) qs)
+    subst (Upto (foldLeft put (put s q) qs)) (append-assoc ps (q ∷ []) qs)
     (upto-fold (suc (q .place)) n qs (put s q) (ps ++ q ∷ []) (upto-put s ps q h c)
     (all-snoc (λ x. x .place < suc (q .place)) ps q (All-map ps (λ x k. omega (arith, b .0)) a) (omega arith)) (b .2))
 

@@ -13,13 +13,13 @@ use borrow.Author.Tests.{le-leb, lt-leb, eq-eqb, ne-eqb}
 use Rattle.arith.proofs.FloatOrder.{lt-asym}
 use Rattle.machine.specs.declared.Mark.{Mark}
 use Rattle.machine.specs.declared.Mark.the-variants.{D, G}
-use Rattle.check_bi.specs.declared.scan.Candle.{Candle}
-use Rattle.check_bi.specs.declared.scan.Fx.{Fx}
+use Rattle.check_bi.specs.declared.check_fx.Candle.{Candle}
+use Rattle.check_bi.specs.declared.check_fx.Fx.{Fx}
 use Rattle.check_bi.specs.declared.scan.Scan.{Scan}
 use Rattle.check_bi.specs.declared.scan.FoundBi.{FoundBi}
 use Rattle.machine.specs.Fractals.{sameMark, beyond}
 use Rattle.machine.specs.Strokes.{bestIf}
-use Rattle.check_bi.specs.Scan.{valueOf, candidateOf, cutWith, closesIf, closesOf, uptoIf, uptoWith, putIf, putOf, openedOf, takeIf, takeOf, fxAt, topOf, bottomOf, stepIf, stepOf, Small, holdsOf, blank, barsTo, foundIf, foundOf}
+use Rattle.check_bi.specs.Code.Scan.{valueOf, candidateOf, cutWith, closesIf, closesOf, uptoIf, uptoWith, putIf, putOf, openedOf, takeIf, takeOf, fxAt, topOf, bottomOf, stepIf, stepOf, Small, holdsOf, blank, barsTo, foundIf, foundOf}
 
 pub candidate-same : (s f : Fx) → sameMark (s .mark) (f .mark) ≡ true → false ≡ candidateOf s f
 unfolding candidateOf

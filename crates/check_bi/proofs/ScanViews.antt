@@ -10,17 +10,16 @@ use lib.Seq.{length-take-le, getD-take, getD-append-add, getD-drop, drop-cons}
 use lib.IntN.{ℤ, pos}
 use lib.Dec.{eqb, leb}
 use lib.Ieee.{Float, nan}
-use Rattle.stores.specs.Stores.{zipWith, barOf, mergedWith, mergedStore, rawBars, mergedBars}
+use Rattle.stores.specs.Stores.{zipWith, barOf, withFirst, mergedStore, rawBars, mergedBars}
 use Rattle.stores.proofs.KeptBars.{map-take}
-use Rattle.machine.specs.declared.Mark.{Mark}
 use Rattle.machine.specs.declared.Mark.the-variants.{D, G}
-use Rattle.check_bi.specs.declared.scan.Candle.{Candle}
-use Rattle.check_bi.specs.declared.scan.Fx.{Fx}
+use Rattle.check_bi.specs.declared.check_fx.Candle.{Candle}
+use Rattle.check_bi.specs.declared.check_fx.Fx.{Fx}
 use Rattle.check_bi.specs.declared.scan.Scan.{Scan}
 use Rattle.machine.specs.Fractals.{sameMark, beyond}
 use Rattle.machine.specs.Strokes.{bestIf}
-use Rattle.check_bi.specs.Scan.{candleOf, fxAt, valueOf, topOf, bottomOf, cutWith, closesOf, uptoIf, uptoWith, putIf, putOf, noFx, blank, openedOf, takeIf, takeOf, stepIf, stepOf, scanFrom, scanOf, Small}
-use Rattle.check_bi.specs.View.{view, candleFrom, candles}
+use Rattle.check_bi.specs.Code.Scan.{candleOf, fxAt, valueOf, topOf, bottomOf, cutWith, closesOf, uptoIf, uptoWith, putIf, putOf, noFx, blank, openedOf, takeIf, takeOf, stepIf, stepOf, scanFrom, scanOf, Small}
+use Rattle.check_bi.specs.Code.View.{view, candleFrom, candles}
 
 -- ---- the view
 
@@ -259,7 +258,7 @@ module _ (ts us : List ℤ) (ps qs : List (List Float)) (n m lo : ℕ)
 -- what is read of the bars of a store whose columns are equally long
 pub candles-are : (ts is : List ℤ) (ps : List (List Float)) (cs : List ℕ) (es : List (List ℤ)) → length is ≡ length ts → length ps ≡ length ts → length cs ≡ length ts
     → length es ≡ length ts → map candleOf (mergedBars (mergedStore ts is ps cs es)) ≡ candles ts ps
-unfolding mergedBars rawBars zipWith candles candleOf mergedWith barOf candleFrom
+unfolding mergedBars rawBars zipWith candles candleOf withFirst barOf candleFrom
 candles-are [] is ps cs es a b c d = refl
 candles-are (t ∷ ts) [] ps cs es a b c d = absurd (omega arith)
 candles-are (t ∷ ts) (i ∷ is) [] cs es a b c d = absurd (omega arith)

@@ -10,11 +10,11 @@ use lib.IntN.{ℤ, pos}
 use lib.Dec.{ltb}
 use lib.Ieee.{Float}
 use borrow.Author.Tests.{ltb-true, ltb-false}
-use Rattle.check_bi.specs.declared.scan.Candle.{Candle}
+use Rattle.check_bi.specs.declared.check_fx.Candle.{Candle}
 use Rattle.check_bi.specs.declared.scan.Scan.{Scan}
-use Rattle.check_bi.specs.Scan.{topOf, bottomOf, stepOf, blank}
-use Rattle.check_bi.specs.View.{view, candleFrom}
-use Rattle.check_bi.specs.Windows.{rowAt, fractalAt, NoneBetween, NextFractal}
+use Rattle.check_bi.specs.Code.Scan.{topOf, bottomOf, stepOf, blank}
+use Rattle.check_bi.specs.Code.View.{view, candleFrom}
+use Rattle.check_bi.specs.Code.Windows.{rowAt, fractalAt, NoneBetween, NextFractal}
 use Rattle.check_bi.proofs.ScanSteps.{step-none}
 use Rattle.check_bi.proofs.ScanViews.{view-left, candleOn, Scanning, Scanned, scan-began, scan-turned, scan-done}
 

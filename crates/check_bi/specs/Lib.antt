@@ -1,3 +1,1 @@
-pub mod Scan
-pub mod View
-pub mod Windows
+pub mod Code

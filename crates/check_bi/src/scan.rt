@@ -5,27 +5,18 @@ ghost use mathlib.Core.List.{[]};
 ghost use Prim.Native.Nat.{_+_, _-_, _≤_, _<_};
 ghost use lib.ListN.{length, getD, drop};
 ghost use lib.IntN.{pos};
-ghost use Rattle.machine.specs.Fractals.{sameMark, beyond};
-ghost use Rattle.check_bi.specs.Scan.{fxAt, valueOf, topOf, bottomOf, candidateOf, cutWith, closesOf, uptoWith, putOf, noFx, blank, openedOf, takeOf, stepOf, Small, scanOf, holdsOf, foundIf, foundOf};
-ghost use Rattle.check_bi.specs.View.{view, candleFrom, candles};
-ghost use Rattle.check_bi.specs.Windows.{rowAt, fractalAt, NextFractal};
+ghost use Rattle.check_bi.specs.Code.Scan.{candidateOf, cutWith, closesOf, uptoWith, putOf, noFx, blank, openedOf, takeOf, stepOf, Small, scanOf, holdsOf, foundIf, foundOf, foundFrom, FoundFits};
+ghost use Rattle.check_bi.specs.Code.View.{view, candleFrom, candles};
+ghost use Rattle.check_bi.specs.Code.Windows.{rowAt, fractalAt, NextFractal};
+use super::check_fx::Candle;
+use super::check_fx::Fx;
+use super::check_fx::fx_at;
+use super::check_fx::is_beyond;
+use super::check_fx::is_bottom;
+use super::check_fx::is_top;
+use super::check_fx::same_mark;
+use super::check_fx::value;
 use machine::Mark;
-
-// Of a merged bar, what fractals and strokes are found by.
-pub struct Candle {
-    pub time: i64,
-    pub high: f64,
-    pub low: f64,
-}
-
-// FX of the source, without its bars: the place of the first of them, and the middle one's time, high and low.
-pub struct Fx {
-    pub place: usize,
-    pub mark: Mark,
-    pub time: i64,
-    pub high: f64,
-    pub low: f64,
-}
 
 // What has been seen so far: how many fractals were taken, the last one's mark, the first one, the
 // one that the first stroke's cut would begin on, the best candidate, if there is one, and how many
@@ -47,80 +38,6 @@ pub struct FoundBi {
     pub end: Fx,
     pub bars: usize,
     pub fractals: usize,
-}
-
-pub fn same_mark(a: Mark, b: Mark) -> bool
-    ensures { λ r. ⌜ r ≡ sameMark a b ⌝ }
-{
-    match a {
-        Mark::D => match b {
-            Mark::D => true,
-            Mark::G => false,
-        },
-        Mark::G => match b {
-            Mark::D => false,
-            Mark::G => true,
-        },
-    }
-}
-
-// a is strictly beyond b: higher for tops, lower for bottoms.
-fn is_beyond(m: Mark, a: f64, b: f64) -> bool
-    ensures { λ r. ⌜ r ≡ beyond m a b ⌝ }
-{
-    match m {
-        Mark::D => a < b,
-        Mark::G => b < a,
-    }
-}
-
-// fx: a top's high, a bottom's low.
-fn value(f: Fx) -> f64
-    ensures { λ r. ⌜ r ≡ valueOf f ⌝ }
-{
-    let m = f.mark;
-    match m {
-        Mark::D => f.low,
-        Mark::G => f.high,
-    }
-}
-
-pub fn is_top(a: Candle, b: Candle, c: Candle) -> bool
-    ensures { λ r. ⌜ r ≡ topOf a b c ⌝ }
-{
-    if a.high < b.high {
-        if c.high < b.high {
-            if a.low < b.low {
-                return c.low < b.low;
-            }
-        }
-    }
-    false
-}
-
-pub fn is_bottom(a: Candle, b: Candle, c: Candle) -> bool
-    ensures { λ r. ⌜ r ≡ bottomOf a b c ⌝ }
-{
-    if b.low < a.low {
-        if b.low < c.low {
-            if b.high < a.high {
-                return b.high < c.high;
-            }
-        }
-    }
-    false
-}
-
-fn fx_at(i: usize, m: Mark, b: Candle) -> Fx
-    ensures { λ r. ⌜ r ≡ fxAt i m b ⌝ }
-{
-    Fx {
-        place: i,
-        mark: m,
-        time: b.time,
-        high: b.high,
-        low: b.low,
-    }
 }
 
 // Whether f can end a stroke from s.
@@ -465,4 +382,22 @@ pub fn found_bi(s: Scan, minimum: usize) -> FoundBi
         return no_bi();
     }
     no_bi()
+}
+
+// check_bi of the source, of the view from place lo on. Places are counted from there.
+pub fn check_bi(
+    ts: &[i64],
+    ps: &[[f64; 6]],
+    us: &[i64],
+    qs: &[[f64; 6]],
+    n: usize,
+    m: usize,
+    lo: usize,
+    minimum: usize,
+) -> FoundBi
+    requires { ⌜ (n ≤ length (now ts)) × (n ≤ length (now ps)) × (m ≤ length (now us)) × (m ≤ length (now qs)) × (n + m < 4294967296) × (lo ≤ n + m) ⌝ }
+    ensures { λ r. ⌜ (r ≡ foundFrom minimum lo (candles (view n (now (ts .entry)) m (now (us .entry))) (view n (now (ps .entry)) m (now (qs .entry))))) × FoundFits r (n + m - lo) ⌝ }
+{
+    let s = scan_from(ts, ps, us, qs, n, m, lo);
+    found_bi(s, minimum)
 }

@@ -3,20 +3,21 @@
 ghost use mathlib.Core.Path.{_≡_};
 ghost use Prim.Native.Nat.{_≤_};
 ghost use lib.ListN.{length};
-ghost use Rattle.stores.specs.Stores.{rawStore, mergedStore, rawBars};
-ghost use Rattle.strokes.specs.Stored.{fractalStore};
+ghost use Rattle.stores.specs.Stores.{rawBars};
+ghost use Rattle.strokes.specs.Lent.{before, after};
 ghost use Rattle.sound.specs.FreshStand.{freshOf};
-ghost use Rattle.sound.specs.SoundStand.{storesOf};
 ghost use Rattle.feed.specs.PortCalls.{FeedIs};
 ghost use Rattle.batch.specs.BatchCalls.{BatchIs};
-ghost use Rattle.czsc_c.specs.Packed.{packed, told, roomsWith, barWith};
-use crate::packed::hand_over;
-use crate::packed::hand_over_all;
-use crate::packed::pack;
-use crate::packed::unpack;
+ghost use Rattle.czsc_c.specs.Handed.{answerAfter, roomsWith, barWith, toldAfter, WithRows};
+ghost use Rattle.strokes.specs.Packed.{packed, packedBefore, packedAfter};
+ghost use Rattle.stores.specs.Lent.{rawBefore};
+use crate::handed::hand_over;
+use crate::handed::hand_over_all;
 use bars::Bar;
 use feed::Czsc;
 use strokes::Rooms;
+use strokes::pack;
+use strokes::unpack;
 
 // A fresh analyzer, whose stand is packed: the number of the first of questions 1 to 3 that is answered "no", or 0.
 #[no_mangle]
@@ -29,7 +30,7 @@ pub extern "C" fn czsc_fresh(
     numbers: &mut [[usize; 8]],
     counts: &mut [[usize; 65]],
 ) -> u64
-    ensures { λ f. ⌜ (f ≡ (freshOf minimum most (roomsWith raw unfinished strokes)) .refused) × (1 ≤ length (now (numbers .entry)) → 2 ≤ length (now (counts .entry)) → packed (now (numbers .exit)) (now (counts .exit)) ≡ (freshOf minimum most (roomsWith raw unfinished strokes)) .stand) ⌝ }
+    ensures { λ f. ⌜ (f ≡ (freshOf minimum most (roomsWith raw unfinished strokes)) .refused) × (1 ≤ length (now (numbers .entry)) → 2 ≤ length (now (counts .entry)) → packedAfter numbers counts ≡ (freshOf minimum most (roomsWith raw unfinished strokes)) .stand) ⌝ }
 {
     let rooms = Rooms {
         raw,
@@ -72,7 +73,7 @@ pub extern "C" fn czsc_update_bar(
     vol: f64,
     amount: f64,
 ) -> u64
-    ensures { λ f. ⌜ (1 ≤ length (now (numbers .entry)) → 2 ≤ length (now (counts .entry)) → 1 ≤ length (now (events .entry)) → FeedIs (packed (now (numbers .entry)) (now (counts .entry))) (storesOf (rawStore (now (rt .entry)) (now (ri .entry)) (now (rp .entry))) (mergedStore (now (ut .entry)) (now (ui .entry)) (now (up .entry)) (now (uc .entry)) (now (ue .entry))) (mergedStore (now (st .entry)) (now (si .entry)) (now (sp .entry)) (now (sc .entry)) (now (se .entry))) (fractalStore (now (fs .entry)) (now (fp .entry)))) (barWith time id «open» close high low vol amount) f (told (now (events .exit)) 0) (told (now (events .exit)) 1) (told (now (events .exit)) 2) (packed (now (numbers .exit)) (now (counts .exit))) (storesOf (rawStore (now (rt .exit)) (now (ri .exit)) (now (rp .exit))) (mergedStore (now (ut .exit)) (now (ui .exit)) (now (up .exit)) (now (uc .exit)) (now (ue .exit))) (mergedStore (now (st .exit)) (now (si .exit)) (now (sp .exit)) (now (sc .exit)) (now (se .exit))) (fractalStore (now (fs .exit)) (now (fp .exit))))) ⌝ }
+    ensures { λ f. ⌜ WithRows numbers counts events (FeedIs (packedBefore numbers counts) (before rt ri rp ut ui up uc ue st si sp sc se fs fp) (barWith time id «open» close high low vol amount) f (toldAfter events 0) (toldAfter events 1) (toldAfter events 2) (packedAfter numbers counts) (after rt ri rp ut ui up uc ue st si sp sc se fs fp)) ⌝ }
 {
     let b = Bar {
         time,
@@ -137,7 +138,7 @@ pub extern "C" fn czsc_feed_all(
     bi: &[i32],
     bp: &[[f64; 6]],
 ) -> u64
-    ensures { λ f. ⌜ (1 ≤ length (now (numbers .entry)) → 2 ≤ length (now (counts .entry)) → 1 ≤ length (now (sums .entry)) → BatchIs minimum most (roomsWith raw unfinished strokes) (storesOf (rawStore (now (rt .entry)) (now (ri .entry)) (now (rp .entry))) (mergedStore (now (ut .entry)) (now (ui .entry)) (now (up .entry)) (now (uc .entry)) (now (ue .entry))) (mergedStore (now (st .entry)) (now (si .entry)) (now (sp .entry)) (now (sc .entry)) (now (se .entry))) (fractalStore (now (fs .entry)) (now (fp .entry)))) (rawBars (rawStore (now (bt .entry)) (now (bi .entry)) (now (bp .entry)))) (record { stand = packed (now (numbers .exit)) (now (counts .exit)); fed = told (now (sums .exit)) 3; failed = f; made = told (now (sums .exit)) 0; broken = told (now (sums .exit)) 1; shed = told (now (sums .exit)) 2 }) (storesOf (rawStore (now (rt .exit)) (now (ri .exit)) (now (rp .exit))) (mergedStore (now (ut .exit)) (now (ui .exit)) (now (up .exit)) (now (uc .exit)) (now (ue .exit))) (mergedStore (now (st .exit)) (now (si .exit)) (now (sp .exit)) (now (sc .exit)) (now (se .exit))) (fractalStore (now (fs .exit)) (now (fp .exit))))) ⌝ }
+    ensures { λ f. ⌜ WithRows numbers counts sums (BatchIs minimum most (roomsWith raw unfinished strokes) (before rt ri rp ut ui up uc ue st si sp sc se fs fp) (rawBars (rawBefore bt bi bp)) (answerAfter numbers counts sums f) (after rt ri rp ut ui up uc ue st si sp sc se fs fp)) ⌝ }
 {
     let rooms = Rooms {
         raw,

@@ -12,7 +12,7 @@ use Rattle.machine.specs.Fractals.{Fractal, timeOf, fxOf}
 use Rattle.machine.specs.Strokes.{Stroke}
 use Rattle.machine.specs.Break.{highOf, lowOf}
 use Rattle.machine.specs.KeptStrokes.{LessExtreme, Meets, MeetAll}
-use Rattle.strokes.specs.Stored.{bareBar, bareFractal, bareStroke}
+use Rattle.strokes.specs.StateRead.{bareBar, bareFractal, bareStroke}
 use Rattle.zones.specs.FakeStrokes.{Fake, evenPart, pairs, fakes, fakeDirection, fakeWith, fakeFrom, fakeOf, createFakeBis, Runs, FakesOf}
 use Rattle.zones.specs.Zones.{summary}
 use Rattle.zones.specs.Claims.{Inside}

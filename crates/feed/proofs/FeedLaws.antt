@@ -6,18 +6,20 @@ use native.Mathlib.Omega.{arith}
 use Rattle.bars.specs.declared.Bar.{Bar}
 use Rattle.machine.specs.FeedQuestions.{orElse, failedAfter4}
 use Rattle.strokes.specs.declared.Stand.{Stand}
-use Rattle.strokes.specs.Stored.{Stores, settingsOf, stateOf, sized}
+use Rattle.strokes.specs.StateRead.{settingsOf, stateOf, sized}
+use Rattle.strokes.specs.Lent.{Stores}
 use Rattle.machine.specs.Soundness.{sound}
-use Rattle.sound.specs.Question4.{question4, IsSound}
+use Rattle.sound.specs.StandSound.{IsSound, storesSound}
+use Rattle.question4.specs.Question4.{question4}
 use Rattle.feed.specs.PortCalls.{failedBy, FeedIs, call, none}
 use Rattle.feed.specs.declared.feed.FeedAnswer.{FeedAnswer}
 use Rattle.feed.proofs.SameLengths.{SameLengths}
 use Rattle.feed.proofs.PortStays.{calls-lengths}
 use Rattle.asking.specs.declared.questions.Asked.{Asked}
-use Rattle.asking.specs.Asked.{AskedOf}
+use Rattle.asking.specs.Code.Asked.{AskedOf}
 use Rattle.writing.specs.declared.Wrote.{Wrote}
-use Rattle.writing.specs.Written.{CanWrite, IsWritten}
-use Rattle.sound.proofs.SoundScans.{yes}
+use Rattle.writing.specs.Code.Written.{CanWrite, IsWritten}
+use Rattle.arith.proofs.Tests.{yes}
 use lib.Ieee.Fits.{and-i}
 
 module _ (s : Stand) (m : Stores) (b : Bar) where
@@ -36,7 +38,7 @@ module _ (s : Stand) (m : Stores) (b : Bar) where
       }
 
   pub sound-4 : IsSound s m → question4 s m ≡ true
-  unfolding question4
+  unfolding question4 storesSound
   sound-4 h = yes (sized s m && sound (settingsOf s) (stateOf s m)) (and-i (sized s m) (sound (settingsOf s) (stateOf s m)) (h .sizes) (h .state))
 
   asked-is : IsSound s m → failedBy s m b ≡ failedAfter4 (settingsOf s) (stateOf s m) b

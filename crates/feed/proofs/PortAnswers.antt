@@ -12,10 +12,9 @@ use lib.Dec.{T, leb, ltb, le→leb, lt→ltb, ltb→lt}
 use Rattle.bars.specs.Lists.{All, join}
 use Rattle.machine.specs.Fractals.{timeOf}
 use Rattle.machine.specs.Strokes.{Stroke, directionOf}
-use Rattle.strokes.specs.Stored.{stateOf}
-use Rattle.sound.specs.Question4.{question4}
-use Rattle.sound.proofs.SoundScans.{yes}
-use Rattle.reports.specs.Reports.{nth, exists, strokeExists, runExists, runOf, fractalsOf}
+use Rattle.question4.specs.Question4.{question4}
+use Rattle.arith.proofs.Tests.{yes}
+use Rattle.named.specs.ReportQuestions.{nth, exists, strokeExists, runExists, runOf, fractalsOf}
 use Rattle.zones.specs.declared.Summary.{Summary}
 use Rattle.zones.specs.declared.FakeStroke.{FakeStroke}
 use Rattle.zones.specs.FakeStrokes.{createFakeBis}
@@ -25,8 +24,7 @@ use Rattle.zones.specs.ZoneRows.{ZoneColumns, StrokeColumns}
 use Rattle.zones.specs.ListedZones.{zonesFit, strokesFit, zonesIf, zonesAfter, listedZones}
 use Rattle.zones.specs.FakeRows.{FakeColumns}
 use Rattle.zones.specs.ListedFakes.{fakesOf, strokeFailed, fakesFit, FakesCall, fakesIf, fakesAfter, listedFakes}
-use Rattle.zones.specs.FakesRead.{fakesRead}
-use Rattle.zones.specs.Claims.{Told, Inside}
+use Rattle.zones.specs.Claims.{FakeChain, Inside}
 use Rattle.zones.proofs.ZonesJoin.{zones-joined}
 use Rattle.zones.proofs.ZonesReadBack.{zones-read}
 use Rattle.zones.proofs.FakesReadBack.{fakes-read}
@@ -128,5 +126,5 @@ fakes-told r k i d h =
       at = f .at;
       odd = ap (λ (n : ℕ). n % 2) (a .count ∙ ap length e) ∙ f .has .count;
       fakes = t;
-      told = subst (λ (l : List FakeStroke). Told (timeOf (b .start)) (directionOf (b .start .mark)) l (timeOf (b .end))) (sym t) (f .has .told);
+      told = subst (λ (l : List FakeStroke). FakeChain (timeOf (b .start)) (directionOf (b .start .mark)) l (timeOf (b .end))) (sym t) (f .has .told);
     }

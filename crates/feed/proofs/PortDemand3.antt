@@ -16,7 +16,8 @@ use Rattle.machine.specs.Reached.{Later}
 use Rattle.machine.proofs.ByPlace.{search-by-time}
 use Rattle.machine.proofs.ReachedSound.{reached-by-time}
 use Rattle.strokes.specs.declared.Rooms.{Rooms}
-use Rattle.strokes.specs.Stored.{Stores, settingsOf, stateOf, barCounts, total, storesSized, countsSized, elementsSized, sized, bareStroke, bareState}
+use Rattle.strokes.specs.StateRead.{settingsOf, stateOf, barCounts, total, storesSized, countsSized, elementsSized, sized, bareStroke, bareState}
+use Rattle.strokes.specs.Lent.{Stores}
 use Rattle.sound.specs.FreshStand.{orDefault, emptyStand, noStand, freshFailed, freshBy, freshOf}
 use Rattle.sound.proofs.FreshLaws.{fresh-state}
 use Rattle.zones.specs.Zones.{Zone, summary, getZsSeq}

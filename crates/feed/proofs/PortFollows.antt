@@ -14,17 +14,19 @@ use Rattle.machine.specs.Soundness.{sound}
 use Rattle.machine.specs.FeedQuestions.{orElse, failedAfter4, failed}
 use Rattle.machine.specs.Calls.{Call, feedBy, feed, none-yet, plus, run, acceptedBy, accepted}
 use Rattle.strokes.specs.declared.Stand.{Stand}
-use Rattle.strokes.specs.Stored.{Stores, settingsOf, stateOf, sized, bareState}
+use Rattle.strokes.specs.StateRead.{settingsOf, stateOf, sized, bareState}
+use Rattle.strokes.specs.Lent.{Stores}
 use Rattle.strokes.proofs.BareSteps.{bare-step, bare-events}
 use Rattle.strokes.proofs.BareSound.{bare-failed}
-use Rattle.sound.specs.Question4.{question4}
+use Rattle.question4.specs.Question4.{question4}
+use Rattle.sound.specs.StandSound.{storesSound}
 use Rattle.feed.specs.PortCalls.{failedBy, FeedIs, added, PortCalls, none, call, acceptedIf, acceptedOf}
 
 -- ---- one call
 
 -- with stores of the recorded lengths, the port asks what the machine asks
 same-failed : (s : Stand) (m : Stores) (b : Bar) (x : State) → T (sized s m) → stateOf s m ≡ bareState x → failedBy s m b ≡ failed (settingsOf s) x b
-unfolding failedBy question4 failed
+unfolding failedBy question4 storesSound failed
 same-failed s m b x h e =
     let c = settingsOf s in
     let y = stateOf s m in
@@ -144,7 +146,7 @@ pub record Idle {s t : Stand} {m k : Stores} {bs : List Bar} {e : Events} (p : P
   pub taken : acceptedOf p ≡ []
 
 pub refused-4 : (s : Stand) (m : Stores) (b : Bar) → sized s m ≡ false → failedBy s m b ≡ 4
-unfolding failedBy question4 orElse
+unfolding failedBy question4 storesSound orElse
 refused-4 s m b h = ap (λ (t : Bool). orElse (t && sound (settingsOf s) (stateOf s m)) 4 (failedAfter4 (settingsOf s) (stateOf s m) b)) h
 
 pub idle : {s t : Stand} {m k : Stores} {bs : List Bar} {e : Events} (p : PortCalls s m bs e t k) → sized s m ≡ false → Idle p

@@ -7,7 +7,8 @@ use lib.Dec.{T}
 use Rattle.bars.specs.declared.Bar.{Bar}
 use Rattle.machine.specs.Feed.{Events}
 use Rattle.strokes.specs.declared.Stand.{Stand}
-use Rattle.strokes.specs.Stored.{Stores, settingsOf, sized}
+use Rattle.strokes.specs.StateRead.{settingsOf, sized}
+use Rattle.strokes.specs.Lent.{Stores}
 use Rattle.feed.specs.PortCalls.{PortCalls, none, call}
 use Rattle.feed.proofs.SameLengths.{SameLengths, lengths-of}
 

@@ -4,7 +4,8 @@ use lib.ListN.{length}
 use lib.Dec.{T}
 use Rattle.machine.specs.Stand.{Settings}
 use Rattle.strokes.specs.declared.Stand.{Stand}
-use Rattle.strokes.specs.Stored.{Stores, settingsOf, sized}
+use Rattle.strokes.specs.StateRead.{settingsOf, sized}
+use Rattle.strokes.specs.Lent.{Stores}
 use Rattle.sound.proofs.NewestLaws.{lengths}
 
 pub record SameLengths (m k : Stores) : Type 0 where

@@ -10,9 +10,10 @@ use Rattle.machine.specs.FeedQuestions.{orElse, failedAfter4}
 use Rattle.machine.specs.Calls.{none-yet}
 use Rattle.strokes.specs.declared.Rooms.{Rooms}
 use Rattle.strokes.specs.declared.Stand.{Stand}
-use Rattle.strokes.specs.Stored.{Stores, settingsOf, stateOf, sized, bareState}
+use Rattle.strokes.specs.StateRead.{settingsOf, stateOf, sized, bareState}
+use Rattle.strokes.specs.Lent.{Stores}
 use Rattle.sound.specs.FreshStand.{freshOf}
-use Rattle.sound.specs.Question4.{question4}
+use Rattle.question4.specs.Question4.{question4}
 
 -- ---- one call
 

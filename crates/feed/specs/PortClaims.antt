@@ -15,9 +15,9 @@ use Rattle.machine.specs.Calls.{calls, none-yet, eachLater}
 use Rattle.machine.specs.KeptStrokes.{MeetAll}
 use Rattle.machine.specs.SearchByTime.{SearchByTime}
 use Rattle.machine.specs.ReachedByTime.{ReachedByTime}
-use Rattle.strokes.specs.Stored.{settingsOf, stateOf, storesSized, bareStroke, bareState}
-use Rattle.sound.specs.Question4.{question4}
-use Rattle.reports.specs.Reports.{nth}
+use Rattle.strokes.specs.StateRead.{settingsOf, stateOf, storesSized, bareStroke, bareState}
+use Rattle.question4.specs.Question4.{question4}
+use Rattle.named.specs.ReportQuestions.{nth}
 use Rattle.zones.specs.declared.FakeStroke.{FakeStroke}
 use Rattle.zones.specs.FakeStrokes.{createFakeBis}
 use Rattle.zones.specs.Zones.{Zone, summary, getZsSeq}
@@ -27,7 +27,7 @@ use Rattle.zones.specs.ZonesRead.{zonesRead}
 use Rattle.zones.specs.FakeRows.{FakeColumns}
 use Rattle.zones.specs.ListedFakes.{fakesOf, fakesFit, FakesCall, listedFakes}
 use Rattle.zones.specs.FakesRead.{fakesRead}
-use Rattle.zones.specs.Claims.{Told, Inside}
+use Rattle.zones.specs.Claims.{FakeChain, Inside}
 use Rattle.feed.specs.PortCalls.{FreshCalls, begun, acceptedOf}
 use Rattle.feed.specs.StrokesLeft.{EventStrokes, strokesOf, counted, Left}
 
@@ -79,7 +79,7 @@ pub record FakesTold (r : FreshCalls) (i : ℕ) (c : FakesCall) : Type 0 where
   pub fakes : toldFakes c ≡ createFakeBis (stroke .fractals)
   -- the first begins at the time of the stroke's start and goes the stroke's way, each next one begins at the time at which the one before ends and goes the other
   -- way, and the last ends at the time of the stroke's end
-  pub told : Told (timeOf (stroke .start)) (directionOf (stroke .start .mark)) (toldFakes c) (timeOf (stroke .end))
+  pub told : FakeChain (timeOf (stroke .start)) (directionOf (stroke .start .mark)) (toldFakes c) (timeOf (stroke .end))
 
 -- ---- the claims
 

@@ -1,9 +1,7 @@
 // Feed: update_bar of the source. Every question is asked before anything is written, so that a refusal leaves every cell as it was.
 ghost use mathlib.Core.Path.{_≡_};
-ghost use Rattle.stores.specs.Stores.{rawStore, mergedStore};
-ghost use Rattle.strokes.specs.Stored.{fractalStore};
-ghost use Rattle.sound.specs.SoundStand.{storesOf};
-ghost use Rattle.sound.specs.Question4.{IsSound};
+ghost use Rattle.strokes.specs.Lent.{held, before, after};
+ghost use Rattle.sound.specs.StandSound.{IsSound};
 ghost use Rattle.feed.specs.PortCalls.{FeedIs};
 ghost use Rattle.feed.specs.PortClaims.{PortDemand3};
 use bars::Bar;
@@ -56,8 +54,8 @@ pub fn feed_sound(
     fp: &mut [[f64; 18]],
     b: Bar,
 ) -> FeedAnswer
-    requires { ⌜ IsSound stand (storesOf (rawStore (now rt) (now ri) (now rp)) (mergedStore (now ut) (now ui) (now up) (now uc) (now ue)) (mergedStore (now st) (now si) (now sp) (now sc) (now se)) (fractalStore (now fs) (now fp))) ⌝ }
-    ensures { λ r. ⌜ FeedIs stand (storesOf (rawStore (now (rt .entry)) (now (ri .entry)) (now (rp .entry))) (mergedStore (now (ut .entry)) (now (ui .entry)) (now (up .entry)) (now (uc .entry)) (now (ue .entry))) (mergedStore (now (st .entry)) (now (si .entry)) (now (sp .entry)) (now (sc .entry)) (now (se .entry))) (fractalStore (now (fs .entry)) (now (fp .entry)))) b (r .failed) (r .made) (r .broken) (r .shed) (r .stand) (storesOf (rawStore (now (rt .exit)) (now (ri .exit)) (now (rp .exit))) (mergedStore (now (ut .exit)) (now (ui .exit)) (now (up .exit)) (now (uc .exit)) (now (ue .exit))) (mergedStore (now (st .exit)) (now (si .exit)) (now (sp .exit)) (now (sc .exit)) (now (se .exit))) (fractalStore (now (fs .exit)) (now (fp .exit)))) ⌝ }
+    requires { ⌜ IsSound stand (held rt ri rp ut ui up uc ue st si sp sc se fs fp) ⌝ }
+    ensures { λ r. ⌜ FeedIs stand (before rt ri rp ut ui up uc ue st si sp sc se fs fp) b (r .failed) (r .made) (r .broken) (r .shed) (r .stand) (after rt ri rp ut ui up uc ue st si sp sc se fs fp) ⌝ }
 {
     let asked = asking::ask(
         stand,
@@ -140,10 +138,10 @@ impl Czsc {
         fp: &mut [[f64; 18]],
         b: Bar,
     ) -> FeedAnswer
-        ensures { λ r. ⌜ FeedIs (self .stand) (storesOf (rawStore (now (rt .entry)) (now (ri .entry)) (now (rp .entry))) (mergedStore (now (ut .entry)) (now (ui .entry)) (now (up .entry)) (now (uc .entry)) (now (ue .entry))) (mergedStore (now (st .entry)) (now (si .entry)) (now (sp .entry)) (now (sc .entry)) (now (se .entry))) (fractalStore (now (fs .entry)) (now (fp .entry)))) b (r .failed) (r .made) (r .broken) (r .shed) (r .stand) (storesOf (rawStore (now (rt .exit)) (now (ri .exit)) (now (rp .exit))) (mergedStore (now (ut .exit)) (now (ui .exit)) (now (up .exit)) (now (uc .exit)) (now (ue .exit))) (mergedStore (now (st .exit)) (now (si .exit)) (now (sp .exit)) (now (sc .exit)) (now (se .exit))) (fractalStore (now (fs .exit)) (now (fp .exit)))) × PortDemand3 ⌝ }
+        ensures { λ r. ⌜ FeedIs (self .stand) (before rt ri rp ut ui up uc ue st si sp sc se fs fp) b (r .failed) (r .made) (r .broken) (r .shed) (r .stand) (after rt ri rp ut ui up uc ue st si sp sc se fs fp) × PortDemand3 ⌝ }
     {
         let stand = self.stand;
-        if sound::is_sound(
+        if question4::is_sound(
             stand,
             rt,
             ri,

@@ -13,15 +13,14 @@ use lib.IntN.{ℤ, pos}
 use lib.Signed.{ltZ, leZ}
 use lib.Dec.{T, leb, leb→le, nleb→lt}
 use lib.Ieee.{fin}
-use Rattle.arith.proofs.FloatOrder.{decide}
 use Rattle.bars.specs.Bars.{Merged}
 use Rattle.bars.specs.Lists.{All, keepIf}
-use Rattle.machine.specs.Fractals.{Fractal, Placed, fxsAfter, checkFxs, placedAfter, placedFxs}
+use Rattle.machine.specs.Fractals.{Fractal, Placed, checkFxs, placedAfter, placedFxs}
 use Rattle.machine.specs.Strokes.{Stroke, Found, candidate, endOf, startBest, fitsMin, strokeAt, madeAt, foundTo, foundIn, checkBi, cutTo, cut}
 use Rattle.machine.specs.ByTime.{from, strokeOf, madeIf, foundWith, foundAmong, checkBiByTime, cutAt, cutByTime}
 use Rattle.machine.specs.Rising.{Rising}
 use Rattle.machine.specs.SearchByTime.{SearchByTime}
-use Rattle.machine.proofs.Times as times
+use Rattle.bars.proofs.Times as times
 use Rattle.machine.proofs.Lists.{All-zip, All-keep}
 use Rattle.machine.proofs.Places.{fractal, placed-are, Stands, Ascend, next, placed-stand, placed-ascend, ascend-from, Holds, end-all, start-all, end-along, start-along, keep-along, keep-same, rising-drop, earlier, not-later, from-place, up-to-place}
 

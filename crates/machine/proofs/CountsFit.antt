@@ -18,10 +18,10 @@ use Rattle.bars.specs.Lists.{All, skipWhile, last, init, every}
 use Rattle.machine.specs.Strokes.{Stroke, checkBi, cut}
 use Rattle.machine.specs.Break.{breaks, joined}
 use Rattle.machine.specs.Stand.{Settings, State, fresh}
-use Rattle.machine.specs.Feed.{Moved, Step, addFound, addMade, makeAfter, makeIf, make, breakIf, breakLast, moveAfter, moveIf, move, shedIf, shedCount, dropBefore, dropEarly, finishIf, finish, isLater, rawWith, mergedWith, stepWith, step}
+use Rattle.machine.specs.Feed.{Moved, addFound, addMade, makeAfter, makeIf, make, breakIf, breakLast, moveAfter, moveIf, move, shedIf, shedCount, dropBefore, dropEarly, finishIf, finish, isLater, rawWith, mergedWith, stepWith, step}
 use Rattle.machine.specs.Soundness.{barsOf, fewerFractals, countsFit}
 use Rattle.machine.specs.FeedQuestions.{fewerIf, question10, merged, joinedFits, movedFits, question11, question12, failed}
-use Rattle.machine.specs.Calls.{feedBy, feed, run, start, calls}
+use Rattle.machine.specs.Calls.{feedBy, feed, calls}
 use Rattle.machine.specs.Reached.{OneEach}
 use Rattle.machine.proofs.Lists.{All-append, All-init}
 use Rattle.machine.proofs.EventsKeep.{All-shed}

@@ -16,7 +16,7 @@ use Rattle.bars.specs.Merging.{atTimes}
 use Rattle.machine.specs.Soundness.{sameTime, names}
 use Rattle.arith.proofs.FloatOrder.{decide, contra, or-l, or-r, or-e}
 use Rattle.machine.proofs.Lists.{All-append, All-keep, skip-yes, skip-no}
-use Rattle.machine.proofs.Times as times
+use Rattle.bars.proofs.Times as times
 
 pub same-refl : (t : ℤ) → T (sameTime t t)
 unfolding sameTime

@@ -19,7 +19,7 @@ use Rattle.machine.specs.Rising.{Rising}
 use Rattle.arith.proofs.FloatOrder.{Number, lt-left, lt-right}
 use Rattle.machine.proofs.Lists.{keep-yes, keep-none, All-map}
 use Rattle.machine.proofs.MergingKeepsFractal.{top-of, bottom-of}
-use Rattle.machine.proofs.Times as times
+use Rattle.bars.proofs.Times as times
 use Rattle.machine.proofs.Places.{from-skip, from-stop}
 
 -- f is the window a, b, c

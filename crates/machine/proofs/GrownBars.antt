@@ -11,7 +11,7 @@ use lib.IntN.{ℤ}
 use lib.Signed.{leZ}
 use lib.Dec.{T}
 use lib.Ieee.{lt}
-use Rattle.bars.specs.Lists.{All, keepIf, foldl}
+use Rattle.bars.specs.Lists.{All, keepIf, foldLeft}
 use Rattle.bars.specs.declared.Bar.{Bar}
 use Rattle.bars.specs.Bars.{Merged, own}
 use Rattle.bars.specs.Merging.{united, contains, mergedUp, mergedDown, settle, removeInclude, mergeIn, atTimes}
@@ -55,10 +55,10 @@ merge-local x [] z t = absurd t
 merge-local x (a ∷ []) z t = absurd t
 merge-local x (a ∷ b ∷ l) z t = refl
 
-pub fold-local : (x : Merged) (l : List Merged) (ys : List Bar) → Two l → foldl mergeIn (x ∷ l) ys ≡ x ∷ foldl mergeIn l ys
-unfolding foldl
+pub fold-local : (x : Merged) (l : List Merged) (ys : List Bar) → Two l → foldLeft mergeIn (x ∷ l) ys ≡ x ∷ foldLeft mergeIn l ys
+unfolding foldLeft
 fold-local x l [] t = refl
-fold-local x l (y ∷ ys) t = ap (λ z. foldl mergeIn z ys) (merge-local x l y t) ∙ fold-local x (mergeIn l y) ys (keeps-two l y t)
+fold-local x l (y ∷ ys) t = ap (λ z. foldLeft mergeIn z ys) (merge-local x l y t) ∙ fold-local x (mergeIn l y) ys (keeps-two l y t)
   where
     keeps-two : (l : List Merged) (y : Bar) → Two l → Two (mergeIn l y)
     keeps-two [] y t = absurd t
@@ -92,14 +92,14 @@ unfolding atTimes
 at-one raw z h = ap (_++ []) h
 
 pub regrow : (P : Bar → Type 0) (raw : List Bar) (Q : ℤ → Type 0) (p : List Merged) (c : Merged) → ((z : Bar) → Q (z .time) → P z → Looks raw z) → All Q (c .elements) → Grown P p c
-    → foldl mergeIn p (atTimes raw (c .elements)) ≡ p ++ c ∷ []
-unfolding foldl own
+    → foldLeft mergeIn p (atTimes raw (c .elements)) ≡ p ++ c ∷ []
+unfolding foldLeft own
 regrow P raw Q p c f a (first c' z pz e q) =
-    ap (λ k. foldl mergeIn p (atTimes raw (k .elements))) e ∙ ap (foldl mergeIn p) (at-one raw z (f z ((subst (λ k. All Q (k .elements)) e a) .0) pz)) ∙ q
+    ap (λ k. foldLeft mergeIn p (atTimes raw (k .elements))) e ∙ ap (foldLeft mergeIn p) (at-one raw z (f z ((subst (λ k. All Q (k .elements)) e a) .0) pz)) ∙ q
 regrow P raw Q p c f a (next c' m z g pz e l) =
     let b = subst (All Q) l a in
-    ap (λ ts. foldl mergeIn p (atTimes raw ts)) l
-    ∙ ap (foldl mergeIn p) (at-append raw (m .elements) (z .time ∷ []) ∙ ap (atTimes raw (m .elements) ++_) (at-one raw z (f z ((All-right Q (m .elements) (z .time ∷ []) b) .0) pz)))
+    ap (λ ts. foldLeft mergeIn p (atTimes raw ts)) l
+    ∙ ap (foldLeft mergeIn p) (at-append raw (m .elements) (z .time ∷ []) ∙ ap (atTimes raw (m .elements) ++_) (at-one raw z (f z ((All-right Q (m .elements) (z .time ∷ []) b) .0) pz)))
     ∙ fold-snoc p (atTimes raw (m .elements)) z
     ∙ ap (λ q. mergeIn q z) (regrow P raw Q p m f (All-left Q (m .elements) (z .time ∷ []) b) g)
     ∙ e

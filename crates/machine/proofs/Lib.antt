@@ -1,4 +1,3 @@
-pub mod Times
 pub mod Lists
 pub mod Places
 pub mod ByPlace

@@ -6,7 +6,7 @@ use mathlib.Core.List.{List, [], _∷_, _++_}
 use mathlib.Core.Option.{Option, none, some}
 use mathlib.Core.Logic.{_⊎_, inl, inr}
 use lib.Dec.{T}
-use Rattle.bars.specs.Lists.{All, keepIf, skipWhile, last, init}
+use Rattle.bars.specs.Lists.{All, keepIf, skipWhile, init}
 
 pub cond-yes : {A : Type 0} (t : Bool) (x y : A) → T t → cond t x y ≡ x
 cond-yes true x y h = refl

@@ -24,7 +24,7 @@ use Rattle.machine.proofs.Marks.{same-eq, not-same, both-other}
 use Rattle.machine.proofs.Lists.{keep-yes, keep-no, keep-none, All-map, All-zip, All-keep}
 use Rattle.machine.proofs.EndFirstExtreme.{FirstBest, Known, among}
 use Rattle.machine.proofs.FractalWindows.{Window, Spaced, fxs-windows, fxs-spaced, spaced-rising, window-rises, window-number}
-use Rattle.machine.proofs.Times as times
+use Rattle.bars.proofs.Times as times
 use Rattle.machine.proofs.FewerFractals.{In, in-all, keep-pass, Alternate, fractals-alternate, Of, best-first, candidate-other, not-itself, alternate-front, nothingFound}
 
 abbrev time : Merged → ℤ

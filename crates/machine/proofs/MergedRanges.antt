@@ -5,11 +5,13 @@ use mathlib.Core.List.{List, [], _∷_}
 use lib.Dec.{T}
 use lib.Ieee.{Float, nan, inf, fin, lt, eq, le, binary64, add}
 use lib.Ieee.Fits.{and-i, and-l, and-r}
-use Rattle.bars.specs.Lists.{All, foldl}
+use Rattle.bars.specs.Lists.{All, foldLeft}
 use Rattle.bars.specs.declared.Bar.{Bar}
 use Rattle.bars.specs.Bars.{Merged, own}
 use Rattle.bars.specs.Merging.{united, mergeIn}
-use Rattle.bars.specs.Questions.{zeroFloat, hasMinus, fromZero, isVolume, question7, question8, isBar}
+use Rattle.bars.specs.Questions.{hasMinus, fromZero, isVolume, question7, question8, isBar}
+use Rattle.arith.specs.Sums.{zeroF}
+use Rattle.bars.proofs.MinusZero.{from-zero}
 use Rattle.bars.proofs.MergedBars.{Kept, include-kept}
 use Rattle.machine.specs.Soundness.{isMerged}
 use Rattle.arith.proofs.FromZero.{NonNeg, zero-le, add-nonneg}
@@ -18,14 +20,6 @@ use Rattle.machine.proofs.MergingKeepsOrder.{Unites, merge-all}
 
 -- ---- sums from zero up
 
-pub from-zero : (x : Float) → T (fromZero x) → NonNeg x
-unfolding fromZero le lt eq zeroFloat hasMinus
-from-zero nan h = h
-from-zero (inf true) h = h
-from-zero (inf false) h = tt
-from-zero (fin true m e) h = and-r (le zeroFloat (fin true m e)) false h
-from-zero (fin false m e) h = tt
-
 no-minus : (x : Float) → NonNeg x → T (not (hasMinus x))
 unfolding hasMinus
 no-minus nan n = absurd n
@@ -33,8 +27,8 @@ no-minus (inf s) n = tt
 no-minus (fin s m e) n = n
 
 to-zero : (x : Float) → NonNeg x → T (fromZero x)
-unfolding fromZero zeroFloat
-to-zero x n = and-i (le zeroFloat x) (not (hasMinus x)) (zero-le x n) (no-minus x n)
+unfolding fromZero
+to-zero x n = and-i (le zeroF x) (not (hasMinus x)) (zero-le x n) (no-minus x n)
 
 add-from : (x y : Float) → T (fromZero x) → T (fromZero y) → T (fromZero (add binary64 x y))
 add-from x y h k = to-zero (add binary64 x y) (add-nonneg binary64 x y (from-zero x h) (from-zero y k))
@@ -93,7 +87,7 @@ merge-sums l b a q = merge-all Sums l b a q (λ k p. united-sums k b q p)
 pub merge-passes : (l : List Merged) (b : Bar) → All IsMerged l → T (isBar b) → All IsMerged (mergeIn l b)
 merge-passes l b a h = All-zip (mergeIn l b) merged-of (merge-kept l b (All-map l kept-of a) (bar-kept b h)) (merge-sums l b (All-map l sums-of a) (bar-sums b h))
 
-pub fold-passes : (l : List Merged) (ys : List Bar) → All IsMerged l → All (λ y. T (isBar y)) ys → All IsMerged (foldl mergeIn l ys)
-unfolding foldl
+pub fold-passes : (l : List Merged) (ys : List Bar) → All IsMerged l → All (λ y. T (isBar y)) ys → All IsMerged (foldLeft mergeIn l ys)
+unfolding foldLeft
 fold-passes l [] a h = a
 fold-passes l (y ∷ ys) a h = fold-passes (mergeIn l y) ys (merge-passes l y a (h .0)) (h .1)

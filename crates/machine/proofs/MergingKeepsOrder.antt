@@ -16,7 +16,7 @@ use Rattle.arith.specs.Order.{maxOf, minOf}
 use Rattle.machine.specs.ByTime.{from}
 use Rattle.machine.specs.Rising.{Rising}
 use Rattle.machine.proofs.Lists.{All-map, All-append, All-left, All-right, All-skip}
-use Rattle.machine.proofs.Times as times
+use Rattle.bars.proofs.Times as times
 
 -- the times that a merged bar names
 abbrev pub stamps : Merged → List ℤ

@@ -11,7 +11,7 @@ use lib.IntN.{ℤ}
 use lib.Signed.{ltZ}
 use lib.Dec.{T, ltb}
 use lib.Ieee.{Float, lt}
-use Rattle.bars.specs.Lists.{All, skipWhile, foldl, init, last}
+use Rattle.bars.specs.Lists.{All, skipWhile, foldLeft, init, last}
 use Rattle.bars.specs.declared.Bar.{Bar}
 use Rattle.bars.specs.Bars.{Merged, own}
 use Rattle.machine.specs.Fractals.{Fractal, checkFxs}
@@ -38,7 +38,7 @@ use Rattle.machine.proofs.ReplacedBars.{Fine, Fed, fed, last-raw, step-
 use Rattle.machine.proofs.StrokesMeet.{last-append}
 use Rattle.machine.proofs.ElementsNamed.{same-refl}
 use Rattle.machine.proofs.StrokesBeforeKept as steps
-use Rattle.machine.proofs.Times as times
+use Rattle.bars.proofs.Times as times
 use Rattle.machine.proofs.FewerFractals.{in-all, nothingFound}
 
 abbrev time : Merged → ℤ
@@ -77,15 +77,15 @@ merge-ends (k1 ∷ []) b = closes-own b
 merge-ends (k1 ∷ k2 ∷ []) b = settle-ends (lt (k1 .bar .high) (k2 .bar .high)) (lt (k2 .bar .high) (k1 .bar .high)) (contains (k2 .bar) b) k1 k2 b
 merge-ends (k1 ∷ k2 ∷ k3 ∷ l) b = let m = merge-head k2 k3 l b in ends-cons (b .time) k1 (mergeIn (k2 ∷ k3 ∷ l) b) k2 (m .0) (m .1) (merge-ends (k2 ∷ k3 ∷ l) b)
 
-pub fold-snoc : (l : List Merged) (ys : List Bar) (b : Bar) → foldl mergeIn l (ys ++ b ∷ []) ≡ mergeIn (foldl mergeIn l ys) b
-unfolding foldl
+pub fold-snoc : (l : List Merged) (ys : List Bar) (b : Bar) → foldLeft mergeIn l (ys ++ b ∷ []) ≡ mergeIn (foldLeft mergeIn l ys) b
+unfolding foldLeft
 fold-snoc l [] b = refl
 fold-snoc l (y ∷ ys) b = fold-snoc (mergeIn l y) ys b
 
-again-ends : (p : List Merged) (raw : List Bar) (o : Option Merged) (b : Bar) → Ends (b .time) (foldl mergeIn p (again raw o b))
-unfolding again foldl
+again-ends : (p : List Merged) (raw : List Bar) (o : Option Merged) (b : Bar) → Ends (b .time) (foldLeft mergeIn p (again raw o b))
+unfolding again foldLeft
 again-ends p raw none b = merge-ends p b
-again-ends p raw (some k) b = subst (Ends (b .time)) (sym (fold-snoc p (atTimes raw (init (k .elements))) b)) (merge-ends (foldl mergeIn p (atTimes raw (init (k .elements)))) b)
+again-ends p raw (some k) b = subst (Ends (b .time)) (sym (fold-snoc p (atTimes raw (init (k .elements))) b)) (merge-ends (foldLeft mergeIn p (atTimes raw (init (k .elements)))) b)
 
 pub fed-ends : (t : Bool) (s : State) (b : Bar) → Ends (b .time) (mergedWith t s b)
 unfolding mergedWith mergeAll

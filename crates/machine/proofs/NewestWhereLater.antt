@@ -26,7 +26,7 @@ use Rattle.machine.proofs.StrokesChain.{Chain, chain-took, last-snoc}
 use Rattle.machine.proofs.ChainKept.{Inv, inv-made, chain-begins}
 use Rattle.machine.proofs.StrokesMeet.{Fine, merged-inv, feed-fine, start-fine, start-none}
 use Rattle.machine.proofs.NewestLast.{between, MayLose, NoneLost, from-none, reached-newest}
-use Rattle.machine.proofs.Times as times
+use Rattle.bars.proofs.Times as times
 
 abbrev time : Merged → ℤ
 time k = k .bar .time

@@ -13,7 +13,7 @@ use lib.IntN.{ℤ}
 use lib.Signed.{ltZ, leZ}
 use lib.Dec.{T, ltb}
 use lib.Ieee.Fits.{and-l, and-r, and-i}
-use Rattle.bars.specs.Lists.{All, keepIf, skipWhile, foldl, init, last, some-of}
+use Rattle.bars.specs.Lists.{All, keepIf, skipWhile, foldLeft, init, last, some-of}
 use Rattle.bars.specs.declared.Bar.{Bar}
 use Rattle.bars.specs.Bars.{Merged, own}
 use Rattle.machine.specs.Fractals.{Fractal, checkFxs}
@@ -49,7 +49,7 @@ use Rattle.machine.proofs.TimeFloor.{last-elements, joined-two}
 use Rattle.machine.proofs.ReachedWell.{Called, Kept, Well, fed-kept, feed-well, start-well}
 use Rattle.machine.proofs.NewestWhereLater.{newest-unless-lost}
 use Rattle.machine.proofs.StrokesBeforeKept as steps
-use Rattle.machine.proofs.Times as times
+use Rattle.bars.proofs.Times as times
 use Rattle.machine.proofs.FewerFractals.{in-all}
 
 abbrev time : Merged → ℤ
@@ -164,7 +164,7 @@ module _ (raw : List Bar) (n : ℤ) (k : Merged) (called : All (λ t. T (names r
   look z h p = p .0 h
 
   record Rest (p back : List Merged) : Type 0 where
-    eq : (y : Bar) → foldl mergeIn p (atTimes raw (init (k .elements)) ++ y ∷ []) ≡ mergeIn back y
+    eq : (y : Bar) → foldLeft mergeIn p (atTimes raw (init (k .elements)) ++ y ∷ []) ≡ mergeIn back y
     exact : Exact P back
     shrunk : (back ≡ p) ⊎ ((m : Merged) × (z : Bar) × (back ≡ p ++ m ∷ []) × (k .elements ≡ m .elements ++ z .time ∷ []))
 
@@ -172,8 +172,8 @@ module _ (raw : List Bar) (n : ℤ) (k : Merged) (called : All (λ t. T (names r
   rest-of p u x = record { eq = u .eq; exact = x; shrunk = u .shrunk }
 
   rest-none : (p : List Merged) → One (p ++ k ∷ []) → Exact P (p ++ k ∷ []) → (back : List Merged) × Rest p back
-  unfolding atTimes foldl
-  rest-none [] o x = ([], record { eq = λ y. ap (λ ts. foldl mergeIn [] (atTimes raw ts ++ y ∷ [])) o; exact = tt; shrunk = inl refl })
+  unfolding atTimes foldLeft
+  rest-none [] o x = ([], record { eq = λ y. ap (λ ts. foldLeft mergeIn [] (atTimes raw ts ++ y ∷ [])) o; exact = tt; shrunk = inl refl })
   rest-none (a ∷ []) o x = let u = pair-undo P raw (λ t. T (names raw t)) look a k (x .0) called in (u .0 .back, rest-of (a ∷ []) (u .0) (u .1))
   rest-none (a ∷ b ∷ q) o x =
       let u = trip-undo P raw (λ t. T (names raw t)) look (part-numbered raw) a b q k (x .1) called in
@@ -244,7 +244,7 @@ rising-under n (t ∷ ts) v r a =
 
 snoc-fresh : (q : List Bar) (r : Bar) (p : List Merged) (k : Merged) (bs : List Stroke) (y : Bar) → r .time ≡ y .time → Inv (y .time) bs (p ++ k ∷ []) → All (λ x. T (ltZ (x .time) (y .time))) q → T (isBar y)
     → All Small (p ++ k ∷ []) → All (λ t. T (names (q ++ r ∷ []) t)) (k .elements) → Held (q ++ r ∷ []) (y .time) (p ++ k ∷ []) bs
-    → Fresh (q ++ y ∷ []) (y .time) (foldl mergeIn p (atTimes (q ++ r ∷ []) (init (k .elements)) ++ y ∷ [])) bs
+    → Fresh (q ++ y ∷ []) (y .time) (foldLeft mergeIn p (atTimes (q ++ r ∷ []) (init (k .elements)) ++ y ∷ [])) bs
 snoc-fresh q r p k bs y e i a ok sm c h =
     let raw = q ++ r ∷ [] in
     let u = rest-links raw (y .time) k c p bs (h .2) (h .0) (h .3) (h .1) in
@@ -264,14 +264,14 @@ last-called u raw p k bs n i w =
     All-zip (k .elements) (λ t f h. f h) ((All-right (Called u raw) p (k ∷ []) (w .named .0)) .0) (last-elements u p k (i .ordered) (w .low .bars) (w .low .single))
 
 same-fresh : (u : ℤ) (q : List Bar) (r : Bar) (l : List Merged) (bs : List Stroke) (y : Bar) → r .time ≡ y .time → Inv (y .time) bs l → All (λ x. T (ltZ (x .time) (y .time))) q → T (isBar y) → All Small l
-    → Kept u (q ++ r ∷ []) l bs → Held (q ++ r ∷ []) (y .time) l bs → Fresh (q ++ y ∷ []) (y .time) (foldl mergeIn (init l) (again (q ++ r ∷ []) (last l) y)) bs
-unfolding again last init foldl closes
+    → Kept u (q ++ r ∷ []) l bs → Held (q ++ r ∷ []) (y .time) l bs → Fresh (q ++ y ∷ []) (y .time) (foldLeft mergeIn (init l) (again (q ++ r ∷ []) (last l) y)) bs
+unfolding again last init foldLeft closes
 same-fresh u q r [] bs y e i a ok sm w h = absurd (h .3)
 same-fresh u q r (x ∷ l) bs y e i a ok sm w h =
     let k = last-some x l in
     let s = last-snoc (x ∷ l) (k .0) (k .1) in
     let j = subst (Inv (y .time) bs) s i in
-    subst (λ z. Fresh (q ++ y ∷ []) (y .time) (foldl mergeIn (init (x ∷ l)) (again (q ++ r ∷ []) z y)) bs) (sym (k .1))
+    subst (λ z. Fresh (q ++ y ∷ []) (y .time) (foldLeft mergeIn (init (x ∷ l)) (again (q ++ r ∷ []) z y)) bs) (sym (k .1))
     (snoc-fresh q r (init (x ∷ l)) (k .0) bs y e j a ok (subst (All Small) s sm) (last-called u (q ++ r ∷ []) (init (x ∷ l)) (k .0) bs (y .time) j (subst (λ z. Kept u (q ++ r ∷ []) z bs) s w))
     (subst (λ z. Held (q ++ r ∷ []) (y .time) z bs) s h))
 
@@ -290,14 +290,14 @@ fresh-later none s y e f h ok sm g =
 fresh-later (some r) s y e f h ok sm g = later-fresh (s .raw) r (s .unfinished) (s .strokes) y (f .0) (raw-before (s .raw) r y e (f .1) h) h ok sm g
 
 fresh-same : (u : ℤ) (o : Option Bar) (s : State) (y : Bar) → last (s .raw) ≡ o → Stands o (s .raw) (s .strokes) (s .unfinished) → T (not (isLater o y)) → T (question9 o y) → T (isBar y) → All Small (s .unfinished)
-    → Kept u (s .raw) (s .unfinished) (s .strokes) → Holds o s → Fresh (init (s .raw) ++ y ∷ []) (y .time) (foldl mergeIn (init (s .unfinished)) (again (s .raw) (last (s .unfinished)) y)) (s .strokes)
+    → Kept u (s .raw) (s .unfinished) (s .strokes) → Holds o s → Fresh (init (s .raw) ++ y ∷ []) (y .time) (foldLeft mergeIn (init (s .unfinished)) (again (s .raw) (last (s .unfinished)) y)) (s .strokes)
 unfolding isLater question9
 fresh-same u none s y e f h k ok sm w g = absurd h
 fresh-same u (some r) s y e f h k ok sm w g =
     let t : r .time ≡ y .time = times.le-antisym (r .time) (y .time) k (times.not-lt-le (r .time) (y .time) h) in
     let q = last-snoc (s .raw) r e in
     let b = subst (λ v. All (λ x. T (ltZ (x .time) v)) (init (s .raw))) t (bars-last (init (s .raw)) r (subst RisingBars q (f .1))) in
-    subst (λ z. Fresh (init (s .raw) ++ y ∷ []) (y .time) (foldl mergeIn (init (s .unfinished)) (again z (last (s .unfinished)) y)) (s .strokes)) (sym q)
+    subst (λ z. Fresh (init (s .raw) ++ y ∷ []) (y .time) (foldLeft mergeIn (init (s .unfinished)) (again z (last (s .unfinished)) y)) (s .strokes)) (sym q)
     (same-fresh u (init (s .raw)) r (s .unfinished) (s .strokes) y t (subst (λ z. Inv z (s .strokes) (s .unfinished)) t (f .0)) b ok sm (subst (λ z. Kept u z (s .unfinished) (s .strokes)) q w)
     (subst (λ z. Held z (y .time) (s .unfinished) (s .strokes)) q (subst (λ v. Held (s .raw) v (s .unfinished) (s .strokes)) t g)))
 

@@ -14,14 +14,14 @@ use lib.Signed.{ltZ, leZ}
 use lib.Dec.{T, leb}
 use lib.Ieee.{Float, lt}
 use Rattle.bars.specs.Bars.{Merged}
-use Rattle.bars.specs.Lists.{All, keepIf, skipWhile}
+use Rattle.bars.specs.Lists.{All, keepIf}
 use Rattle.machine.specs.declared.Mark.{Mark}
 use Rattle.machine.specs.declared.Mark.the-variants.{D, G}
-use Rattle.machine.specs.Fractals.{Fractal, Placed, sameMark, beyond, fxOf, isTop, isBottom, checkFx, taken, pushIf, pushed, fxsAfter, placedIf, placedBy, placedAfter, placedFxs}
+use Rattle.machine.specs.Fractals.{Fractal, Placed, sameMark, beyond, fxOf, isTop, isBottom, checkFx, taken, pushIf, pushed, fxsAfter, placedIf, placedBy, placedAfter}
 use Rattle.machine.specs.Strokes.{bestIf, best, endOf, startBest}
 use Rattle.machine.specs.ByTime.{from}
 use Rattle.machine.specs.Rising.{Rising}
-use Rattle.machine.proofs.Times as times
+use Rattle.bars.proofs.Times as times
 use Rattle.machine.proofs.Lists.{keep-yes, keep-none, skip-yes, skip-no, All-map}
 
 abbrev time : Merged → ℤ

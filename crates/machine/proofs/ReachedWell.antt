@@ -11,15 +11,15 @@ use lib.IntN.{ℤ}
 use lib.Signed.{ltZ, leZ}
 use lib.Dec.{T, ltb, nltb→le}
 use lib.Ieee.Fits.{and-l}
-use Rattle.bars.specs.Lists.{All, foldl, init, last}
+use Rattle.bars.specs.Lists.{All, foldLeft, init, last}
 use Rattle.bars.specs.declared.Bar.{Bar}
 use Rattle.bars.specs.Bars.{Merged}
 use Rattle.machine.specs.Strokes.{Stroke}
-use Rattle.machine.specs.Feed.{addFound, Moved, Step, addMade, shedIf, rawWith, mergedWith, isLater}
+use Rattle.machine.specs.Feed.{addFound, Moved, addMade, shedIf, rawWith, mergedWith, isLater}
 use Rattle.machine.specs.Stand.{State, fresh}
 use Rattle.bars.specs.Merging.{mergeAll, mergeIn, atTimes, again}
 use Rattle.machine.specs.ByTime.{checkBiByTime, cutByTime}
-use Rattle.machine.proofs.MachineByTime.{breakIf, breakLast, moveSome, move, dropEarly, finish, stepWith, step, feedIf, feed, run, start, Asks}
+use Rattle.machine.proofs.MachineByTime.{breakIf, breakLast, moveSome, move, dropEarly, finish, stepWith, step, feedIf, start}
 use Rattle.machine.specs.Break.{breaks}
 use Rattle.bars.specs.Questions.{question9, isBar, question5, firstTime, lastTime}
 use Rattle.machine.specs.Soundness.{names}
@@ -27,13 +27,13 @@ use Rattle.machine.proofs.Lists.{All-map, All-append, All-left, All-ini
 use Rattle.machine.proofs.StrokesChain.{last-snoc}
 use Rattle.machine.proofs.StrokesBefore.{Two, Sides, Inv}
 use Rattle.machine.proofs.StrokesBeforeKept.{shed-inv}
-use Rattle.machine.proofs.ReplacedBars.{Stands, Fine, Fed, fed, at-all, last-raw, last-some, step-fine, start-fine}
+use Rattle.machine.proofs.ReplacedBars.{Stands, Fine, Fed, fed, at-all, last-raw, last-some, step-fine}
 use Rattle.machine.proofs.MergedRanges.{IsMerged, merge-passes, fold-passes}
 use Rattle.machine.proofs.EventsKeep.{move-keeps, Bars, bars-keeps, All-shed}
 use Rattle.machine.proofs.StrokeBuilt.{Built, built-keeps}
 use Rattle.machine.proofs.TimeFloor.{Elements, two-single, Floor, floor-keeps, Floors, floors-keeps, floors-change, floors-shed, floor-shed, least-merged, least-fold, elements-merged, elements-fold, single-merged, single-fold, last-elements}
 use Rattle.machine.proofs.ElementsNamed.{names-more, names-last, names-swap, names-drop, at-keep, at-names}
-use Rattle.machine.proofs.Times as times
+use Rattle.bars.proofs.Times as times
 
 -- ---- the invariant
 
@@ -84,15 +84,15 @@ sides-two-left b [] l d = d .2
 sides-two-left b (b' ∷ bs) l d = sides-two-left b' bs l (d .2)
 
 floors-again : (bs : List Stroke) (p : List Merged) (k : Merged) (ys : List Bar) (b : Bar) → Inv (b .time) bs (p ++ k ∷ []) → ((t : ℤ) → Elements t k → T (leZ t (b .time)) → All (λ y. T (leZ t (y .time))) ys)
-    → Floors (p ++ k ∷ []) bs → Floors (foldl mergeIn p ys) bs
+    → Floors (p ++ k ∷ []) bs → Floors (foldLeft mergeIn p ys) bs
 floors-again [] p k ys b i f d = tt
 floors-again (x ∷ bs) p k ys b i f d =
-    floors-change (x ∷ bs) (p ++ k ∷ []) (foldl mergeIn p ys) (b .time) (i .early)
+    floors-change (x ∷ bs) (p ++ k ∷ []) (foldLeft mergeIn p ys) (b .time) (i .early)
     (λ t e a. least-fold t p ys (f t (last-elements t p k (i .ordered) a (two-single t (p ++ k ∷ []) (sides-two-left x bs (p ++ k ∷ []) (i .sides)))) e) (All-left (λ z. T (leZ t (z .bar .time))) p (k ∷ []) a)) d
 
 -- the last bar k is taken off, and its elements and b go through merging again; raw' names what raw did
 again-kept : (u : ℤ) (raw raw' : List Bar) (p : List Merged) (k : Merged) (bs : List Stroke) (b : Bar) → Kept u raw (p ++ k ∷ []) bs → Inv (b .time) bs (p ++ k ∷ []) → T (isBar b) → T (leZ u (b .time))
-    → ((t : ℤ) → T (names raw t) → T (names raw' t)) → T (names raw' (b .time)) → All (λ r. T (isBar r)) raw' → Kept u raw' (foldl mergeIn p (atTimes raw (init (k .elements)) ++ b ∷ [])) bs
+    → ((t : ℤ) → T (names raw t) → T (names raw' t)) → T (names raw' (b .time)) → All (λ r. T (isBar r)) raw' → Kept u raw' (foldLeft mergeIn p (atTimes raw (init (k .elements)) ++ b ∷ [])) bs
 again-kept u raw raw' p k bs b w i ok h f n rs =
     let ys = atTimes raw (init (k .elements)) in
     let least : (t : ℤ) → Elements t k → T (leZ t (b .time)) → All (λ y. T (leZ t (y .time))) (ys ++ b ∷ []) = λ t e g.
@@ -132,17 +132,17 @@ none-kept u raw raw' bs b w i ok h f n rs =
     }
 
 same-kept : (u : ℤ) (raw raw' : List Bar) (l : List Merged) (bs : List Stroke) (b : Bar) → Kept u raw l bs → Inv (b .time) bs l → T (isBar b) → T (leZ u (b .time))
-    → ((t : ℤ) → T (names raw t) → T (names raw' t)) → T (names raw' (b .time)) → All (λ r. T (isBar r)) raw' → Kept u raw' (foldl mergeIn (init l) (again raw (last l) b)) bs
-unfolding again last init foldl
+    → ((t : ℤ) → T (names raw t) → T (names raw' t)) → T (names raw' (b .time)) → All (λ r. T (isBar r)) raw' → Kept u raw' (foldLeft mergeIn (init l) (again raw (last l) b)) bs
+unfolding again last init foldLeft
 same-kept u raw raw' [] bs b w i ok h f n rs = none-kept u raw raw' bs b w i ok h f n rs
 same-kept u raw raw' (x ∷ r) bs b w i ok h f n rs =
     let k = last-some x r in
     let e = last-snoc (x ∷ r) (k .0) (k .1) in
-    subst (λ z. Kept u raw' (foldl mergeIn (init (x ∷ r)) (again raw z b)) bs) (sym (k .1))
+    subst (λ z. Kept u raw' (foldLeft mergeIn (init (x ∷ r)) (again raw z b)) bs) (sym (k .1))
     (again-kept u raw raw' (init (x ∷ r)) (k .0) bs b (subst (λ z. Kept u raw z bs) e w) (subst (Inv (b .time) bs) e i) ok h f n rs)
 
 replaced-kept : (u : ℤ) (o : Option Bar) (s : State) (b : Bar) → last (s .raw) ≡ o → Stands o (s .raw) (s .strokes) (s .unfinished) → Kept u (s .raw) (s .unfinished) (s .strokes) → T (isBar b) → T (leZ u (b .time))
-    → T (not (isLater o b)) → T (question9 o b) → Kept u (init (s .raw) ++ b ∷ []) (foldl mergeIn (init (s .unfinished)) (again (s .raw) (last (s .unfinished)) b)) (s .strokes)
+    → T (not (isLater o b)) → T (question9 o b) → Kept u (init (s .raw) ++ b ∷ []) (foldLeft mergeIn (init (s .unfinished)) (again (s .raw) (last (s .unfinished)) b)) (s .strokes)
 unfolding isLater question9
 replaced-kept u none s b e f w ok h n k = absurd n
 replaced-kept u (some r) s b e f w ok h n k =

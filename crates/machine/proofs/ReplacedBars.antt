@@ -10,7 +10,7 @@ use lib.IntN.{ℤ}
 use lib.Signed.{ltZ, leZ}
 use lib.Dec.{T, ltb}
 use lib.Ieee.Fits.{and-l, and-r}
-use Rattle.bars.specs.Lists.{All, keepIf, skipWhile, foldl, init, last}
+use Rattle.bars.specs.Lists.{All, keepIf, skipWhile, foldLeft, init, last}
 use Rattle.bars.specs.declared.Bar.{Bar}
 use Rattle.bars.specs.Bars.{Merged, own}
 use Rattle.machine.specs.Strokes.{Stroke}
@@ -26,7 +26,7 @@ use Rattle.machine.proofs.StrokesChain.{last-snoc}
 use Rattle.machine.proofs.StrokesMeet.{last-append, last-skip}
 use Rattle.machine.proofs.StrokesBefore.{AfterAll, Follows, ordered-follows, back, Side, Two, Sides, Inv, side-merged, two-merged, inv-merged}
 use Rattle.machine.proofs.StrokesBeforeKept.{move-inv, shed-inv}
-use Rattle.machine.proofs.Times as times
+use Rattle.bars.proofs.Times as times
 
 -- ---- raw bars in order
 
@@ -109,8 +109,8 @@ init-before n (t ∷ u ∷ l) r a = (times.lt-le-trans t u n (r .0 .0) (a .1 .0)
 
 -- ---- several bars merged in
 
-fold-ordered : (l : List Merged) (ys : List Bar) → Ordered l → RisingBars ys → All (λ y. Below l (y .time)) ys → Ordered (foldl mergeIn l ys)
-unfolding foldl
+fold-ordered : (l : List Merged) (ys : List Bar) → Ordered l → RisingBars ys → All (λ y. Below l (y .time)) ys → Ordered (foldLeft mergeIn l ys)
+unfolding foldLeft
 fold-ordered l [] o r a = o
 fold-ordered l (y ∷ ys) o r a =
     fold-ordered (mergeIn l y) ys (merge-ordered l y o (a .0)) (r .1)
@@ -122,18 +122,18 @@ upto-one n l b e a =
     merge-all (Upto n) l b a (e, (e, tt))
     (λ k p c h lo. united-stamps (λ v. T (leZ v n)) k b (cond c (k .bar .time) (b .time)) h lo (pick (λ v. T (leZ v n)) c (k .bar .time) (b .time) (p .0) e) (p .1) e)
 
-fold-upto : (n : ℤ) (l : List Merged) (ys : List Bar) → All (λ y. T (leZ (y .time) n)) ys → All (Upto n) l → All (Upto n) (foldl mergeIn l ys)
-unfolding foldl
+fold-upto : (n : ℤ) (l : List Merged) (ys : List Bar) → All (λ y. T (leZ (y .time) n)) ys → All (Upto n) l → All (Upto n) (foldLeft mergeIn l ys)
+unfolding foldLeft
 fold-upto n l [] h a = a
 fold-upto n l (y ∷ ys) h a = fold-upto n (mergeIn l y) ys (h .1) (upto-one n l y (h .0) a)
 
-fold-side : (s : Stroke) (l : List Merged) (ys : List Bar) → Side s l → All (λ y. AfterAll (back s) (y .time)) ys → Side s (foldl mergeIn l ys)
-unfolding foldl
+fold-side : (s : Stroke) (l : List Merged) (ys : List Bar) → Side s l → All (λ y. AfterAll (back s) (y .time)) ys → Side s (foldLeft mergeIn l ys)
+unfolding foldLeft
 fold-side s l [] d a = d
 fold-side s l (y ∷ ys) d a = fold-side s (mergeIn l y) ys (side-merged s l y (a .0) d) (a .1)
 
-fold-two : (s : Stroke) (l : List Merged) (ys : List Bar) (b : Bar) → Side s l → All (λ y. AfterAll (back s) (y .time)) ys → Two (foldl mergeIn l (ys ++ b ∷ []))
-unfolding foldl
+fold-two : (s : Stroke) (l : List Merged) (ys : List Bar) (b : Bar) → Side s l → All (λ y. AfterAll (back s) (y .time)) ys → Two (foldLeft mergeIn l (ys ++ b ∷ []))
+unfolding foldLeft
 fold-two s [] [] b d a = absurd d
 fold-two s (h ∷ r) [] b d a = two-merged h r b
 fold-two s l (y ∷ ys) b d a = fold-two s (mergeIn l y) ys b (side-merged s l y (a .0) d) (a .1)
@@ -176,31 +176,31 @@ module _ (p : List Merged) (k : Merged) (raw : List Bar) (b : Bar) (o : Ordered 
   after-up : (q : List Merged) (v w : ℤ) → T (leZ v w) → AfterAll q v → AfterAll q w
   after-up q v w h a = All-map q (λ x f. All-map (stamps x) (λ t g. times.lt-le-trans t v w g h) f) a
 
-  again-ordered : Ordered (foldl mergeIn p (ys ++ b ∷ []))
+  again-ordered : Ordered (foldLeft mergeIn p (ys ++ b ∷ []))
   again-ordered = fold-ordered p (ys ++ b ∷ []) (ordered-left p (k ∷ []) o) ys-rise (times-all (AfterAll p) ((ordered-follows p (k ∷ []) o) .0) (after-up p))
 
-  again-upto : All (Upto (b .time)) (foldl mergeIn p (ys ++ b ∷ []))
+  again-upto : All (Upto (b .time)) (foldLeft mergeIn p (ys ++ b ∷ []))
   again-upto =
       fold-upto (b .time) p (ys ++ b ∷ [])
       (All-append (λ y. T (leZ (y .time) (b .time))) ys (b ∷ []) (at-all (λ v. T (leZ v (b .time))) raw (init (k .elements)) (All-init (λ v. T (leZ v (b .time))) (k .elements) (k-upto .1))) (times.le-refl (b .time), tt))
       (All-left (Upto (b .time)) p (k ∷ []) u)
 
-  again-side : (s : Stroke) → Side s (p ++ k ∷ []) → Two (p ++ k ∷ []) → Side s (foldl mergeIn p (ys ++ b ∷ [])) × Two (foldl mergeIn p (ys ++ b ∷ []))
+  again-side : (s : Stroke) → Side s (p ++ k ∷ []) → Two (p ++ k ∷ []) → Side s (foldLeft mergeIn p (ys ++ b ∷ [])) × Two (foldLeft mergeIn p (ys ++ b ∷ []))
   again-side s d t =
       let r = side-snoc s p k d t in
       let a = times-all (AfterAll (back s)) (r .1) (after-up (back s)) in
       (fold-side s p (ys ++ b ∷ []) (r .0) a, fold-two s p ys b (r .0) (All-left (λ y. AfterAll (back s) (y .time)) ys (b ∷ []) a))
 
-  again-inv : (bs : List Stroke) → Inv (b .time) bs (p ++ k ∷ []) → Inv (b .time) bs (foldl mergeIn p (ys ++ b ∷ []))
-  again-inv bs i = record { ordered = again-ordered; upto = again-upto; early = i .early; sides = sides-change bs (p ++ k ∷ []) (foldl mergeIn p (ys ++ b ∷ [])) (i .sides) again-side }
+  again-inv : (bs : List Stroke) → Inv (b .time) bs (p ++ k ∷ []) → Inv (b .time) bs (foldLeft mergeIn p (ys ++ b ∷ []))
+  again-inv bs i = record { ordered = again-ordered; upto = again-upto; early = i .early; sides = sides-change bs (p ++ k ∷ []) (foldLeft mergeIn p (ys ++ b ∷ [])) (i .sides) again-side }
 
 pub last-some : (x : Merged) (r : List Merged) → (k : Merged) × (last (x ∷ r) ≡ some k)
 unfolding last
 last-some x [] = (x, refl)
 last-some x (y ∷ r) = last-some y r
 
-same-inv : (bs : List Stroke) (l : List Merged) (raw : List Bar) (b : Bar) → Inv (b .time) bs l → RisingBars raw → Inv (b .time) bs (foldl mergeIn (init l) (again raw (last l) b))
-unfolding again last init foldl
+same-inv : (bs : List Stroke) (l : List Merged) (raw : List Bar) (b : Bar) → Inv (b .time) bs l → RisingBars raw → Inv (b .time) bs (foldLeft mergeIn (init l) (again raw (last l) b))
+unfolding again last init foldLeft
 same-inv bs [] raw b i rise =
     record {
       ordered = merge-ordered [] b tt tt;
@@ -212,7 +212,7 @@ same-inv bs (x ∷ r) raw b i rise =
     let k = last-some x r in
     let e = last-snoc (x ∷ r) (k .0) (k .1) in
     let j = subst (Inv (b .time) bs) e i in
-    subst (λ z. Inv (b .time) bs (foldl mergeIn (init (x ∷ r)) (again raw z b))) (sym (k .1))
+    subst (λ z. Inv (b .time) bs (foldLeft mergeIn (init (x ∷ r)) (again raw z b))) (sym (k .1))
     (again-inv (init (x ∷ r)) (k .0) raw b (j .ordered) (j .upto) rise bs j)
 
 -- ---- every list of calls
@@ -257,7 +257,7 @@ fed-later (some r) s b e f h =
     }
 
 fed-same : (o : Option Bar) (s : State) (b : Bar) → last (s .raw) ≡ o → Stands o (s .raw) (s .strokes) (s .unfinished) → T (not (isLater o b)) → T (question9 o b)
-    → Fed b (s .strokes) (foldl mergeIn (init (s .unfinished)) (again (s .raw) (last (s .unfinished)) b)) (init (s .raw) ++ b ∷ [])
+    → Fed b (s .strokes) (foldLeft mergeIn (init (s .unfinished)) (again (s .raw) (last (s .unfinished)) b)) (init (s .raw) ++ b ∷ [])
 unfolding isLater question9
 fed-same none s b e f h k = absurd h
 fed-same (some r) s b e f h k =

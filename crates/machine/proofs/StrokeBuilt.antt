@@ -41,7 +41,7 @@ use Rattle.machine.proofs.StrokesBeforeKept.{inv-made, After}
 use Rattle.machine.proofs.EventsKeep.{Keeps, strokeMade}
 use Rattle.machine.proofs.MadeStroke as made
 use Rattle.machine.proofs.StrokesBeforeKept as steps
-use Rattle.machine.proofs.Times as times
+use Rattle.bars.proofs.Times as times
 use Rattle.machine.proofs.FewerFractals.{Alternate, In}
 
 -- ---- the invariant of StrokesBefore is kept by each event

@@ -24,7 +24,7 @@ use Rattle.machine.proofs.FractalWindows.{Window, window-left, window-m
 use Rattle.machine.proofs.MergingKeepsFractal.{merge-head}
 use Rattle.machine.proofs.MergingKeepsOrder.{stamps, Under, Upto, Before, Ordered, Below, ordered-from, All-from, merge-ordered, upto-merged, merge-all, settle-all, united-stamps, Unites, pick}
 use Rattle.arith.proofs.FloatOrder.{contra, decide}
-use Rattle.machine.proofs.Times as times
+use Rattle.bars.proofs.Times as times
 
 abbrev time : Merged → ℤ
 time k = k .bar .time

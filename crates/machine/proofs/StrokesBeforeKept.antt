@@ -27,7 +27,7 @@ use Rattle.machine.proofs.StrokesChain.{init-two, last-snoc}
 use Rattle.machine.proofs.ChainKept.{cut-ordered, cut-all}
 use Rattle.machine.proofs.StrokesBefore.{Follows, ordered-follows, back, Side, Two, Own, Sides, Inv, inv-took, windows-order, window-from, from-from, side-suffix, side-left, sides-put}
 use Rattle.arith.proofs.FloatOrder.{contra}
-use Rattle.machine.proofs.Times as times
+use Rattle.bars.proofs.Times as times
 use Rattle.machine.proofs.FewerFractals.{nothingFound}
 
 abbrev pub time : Merged → ℤ

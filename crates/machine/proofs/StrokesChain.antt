@@ -28,7 +28,7 @@ use Rattle.machine.proofs.Places.{from-skip, from-stop}
 use Rattle.machine.proofs.FractalWindows.{Window, Cut, cut-window, window-shaped}
 use Rattle.machine.proofs.EndFirstExtreme.{FirstBest}
 use Rattle.machine.proofs.MadeStroke.{Facts, facts, end-window, made-good}
-use Rattle.machine.proofs.Times as times
+use Rattle.bars.proofs.Times as times
 
 abbrev time : Merged → ℤ
 time k = k .bar .time

@@ -37,7 +37,7 @@ use Rattle.machine.proofs.EndIsPeak.{start-of, straight-none, peak-of}
 use Rattle.machine.proofs.NewestLast.{Lost}
 use Rattle.machine.proofs.MadeStroke as made
 use Rattle.machine.proofs.StrokesBeforeKept as steps
-use Rattle.machine.proofs.Times as times
+use Rattle.bars.proofs.Times as times
 use Rattle.machine.proofs.FewerFractals.{candidate-other, nothingFound}
 
 abbrev time : Merged → ℤ

@@ -24,7 +24,7 @@ use Rattle.machine.proofs.Lists.{cond-no, All-map}
 use Rattle.machine.proofs.MergingKeepsOrder.{Upto, stamps}
 use Rattle.machine.proofs.StrokesChain.{pre, follow, Chain, begins-meets}
 use Rattle.machine.proofs.ChainKept.{Inv, inv-merged, move-inv, shed-inv}
-use Rattle.machine.proofs.Times as times
+use Rattle.bars.proofs.Times as times
 
 -- ---- the newest raw bar
 

@@ -8,7 +8,7 @@ use lib.IntN.{ℤ}
 use lib.Signed.{ltZ, leZ}
 use lib.Dec.{T}
 use lib.Ieee.{lt}
-use Rattle.bars.specs.Lists.{All, foldl, init}
+use Rattle.bars.specs.Lists.{All, foldLeft, init}
 use Rattle.bars.specs.declared.Bar.{Bar}
 use Rattle.bars.specs.Bars.{Merged, own}
 use Rattle.machine.specs.declared.Mark.{Mark}
@@ -30,7 +30,7 @@ use Rattle.machine.proofs.StrokesBefore.{Two}
 use Rattle.machine.proofs.NewestLast.{fold-snoc}
 use Rattle.machine.proofs.GrownBars.{Grown, first, next, Over, same, more, grown-over, grown-map, over-local, merge-local, fold-local, Looks, regrow, outcome, Trip, Exact, Small, trip-merged}
 use Rattle.machine.proofs.BarsApart.{Rises, Way, way-not, Numbered, put-apart, beyond-joins, within-joins, over-beyond, over-within, grown-apart, long, bar-of}
-use Rattle.machine.proofs.Times as times
+use Rattle.bars.proofs.Times as times
 
 abbrev time : Merged → ℤ
 time k = k .bar .time
@@ -50,18 +50,18 @@ exact-map P P' Q f (a ∷ b ∷ l) q x = (grown-map P P' Q (a ∷ []) b f (q .1 
 
 pub record Undo (P : Bar → Type 0) (raw : List Bar) (p : List Merged) (k : Merged) : Type 0 where
   pub back : List Merged
-  pub eq : (y : Bar) → foldl mergeIn p (atTimes raw (init (k .elements)) ++ y ∷ []) ≡ mergeIn back y
+  pub eq : (y : Bar) → foldLeft mergeIn p (atTimes raw (init (k .elements)) ++ y ∷ []) ≡ mergeIn back y
   pub shrunk : (back ≡ p) ⊎ ((m : Merged) × (z : Bar) × (back ≡ p ++ m ∷ []) × (k .elements ≡ m .elements ++ z .time ∷ []))
 
 module _ (P : Bar → Type 0) (raw : List Bar) (Q : ℤ → Type 0) (f : (z : Bar) → Q (z .time) → P z → Looks raw z) where
-  pub first-eq : (p : List Merged) (k : Merged) (z y : Bar) → k ≡ own z → foldl mergeIn p (atTimes raw (init (k .elements)) ++ y ∷ []) ≡ mergeIn p y
-  unfolding foldl own init atTimes
-  first-eq p k z y e = ap (λ c. foldl mergeIn p (atTimes raw (init (c .elements)) ++ y ∷ [])) e
+  pub first-eq : (p : List Merged) (k : Merged) (z y : Bar) → k ≡ own z → foldLeft mergeIn p (atTimes raw (init (k .elements)) ++ y ∷ []) ≡ mergeIn p y
+  unfolding foldLeft own init atTimes
+  first-eq p k z y e = ap (λ c. foldLeft mergeIn p (atTimes raw (init (c .elements)) ++ y ∷ [])) e
 
-  pub next-eq : (p : List Merged) (k m : Merged) (z y : Bar) → Grown P p m → All Q (k .elements) → k .elements ≡ m .elements ++ z .time ∷ [] → foldl mergeIn p (atTimes raw (init (k .elements)) ++ y ∷ []) ≡ mergeIn (p ++ m ∷ []) y
+  pub next-eq : (p : List Merged) (k m : Merged) (z y : Bar) → Grown P p m → All Q (k .elements) → k .elements ≡ m .elements ++ z .time ∷ [] → foldLeft mergeIn p (atTimes raw (init (k .elements)) ++ y ∷ []) ≡ mergeIn (p ++ m ∷ []) y
   next-eq p k m z y g a l =
-      ap (λ c. foldl mergeIn p (atTimes raw (init c) ++ y ∷ [])) l
-      ∙ ap (λ c. foldl mergeIn p (atTimes raw c ++ y ∷ [])) (init-snoc (m .elements) (z .time))
+      ap (λ c. foldLeft mergeIn p (atTimes raw (init c) ++ y ∷ [])) l
+      ∙ ap (λ c. foldLeft mergeIn p (atTimes raw c ++ y ∷ [])) (init-snoc (m .elements) (z .time))
       ∙ fold-snoc p (atTimes raw (m .elements)) y
       ∙ ap (λ c. mergeIn c y) (regrow P raw Q p m f (All-left Q (m .elements) (z .time ∷ []) (subst (All Q) l a)) g)
 

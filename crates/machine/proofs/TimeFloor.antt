@@ -10,7 +10,7 @@ use lib.ListN.{length}
 use lib.IntN.{ℤ}
 use lib.Signed.{ltZ, leZ}
 use lib.Dec.{T}
-use Rattle.bars.specs.Lists.{All, skipWhile, foldl, init}
+use Rattle.bars.specs.Lists.{All, skipWhile, foldLeft, init}
 use Rattle.bars.specs.declared.Bar.{Bar}
 use Rattle.bars.specs.Bars.{Merged, own}
 use Rattle.machine.specs.Fractals.{Fractal, checkFxs}
@@ -30,7 +30,7 @@ use Rattle.machine.proofs.StrokesBefore.{Two, Inv, two-merged}
 use Rattle.machine.proofs.EventsKeep.{Keeps, strokeMade, restMade, joined-all, All-shed}
 use Rattle.machine.proofs.StrokeBuilt.{Built, built-keeps}
 use Rattle.machine.proofs.StrokesBeforeKept as steps
-use Rattle.machine.proofs.Times as times
+use Rattle.bars.proofs.Times as times
 
 abbrev time : Merged → ℤ
 time k = k .bar .time
@@ -203,8 +203,8 @@ pub least-merged : (u : ℤ) (l : List Merged) (b : Bar) → T (leZ u (b .time))
 unfolding own united
 least-merged u l b h a = merge-all (λ k. T (leZ u (time k))) l b a h (λ k p c x y. pick (λ v. T (leZ u v)) c (time k) (b .time) p h)
 
-pub least-fold : (u : ℤ) (l : List Merged) (ys : List Bar) → All (λ y. T (leZ u (y .time))) ys → AtLeast u l → AtLeast u (foldl mergeIn l ys)
-unfolding foldl
+pub least-fold : (u : ℤ) (l : List Merged) (ys : List Bar) → All (λ y. T (leZ u (y .time))) ys → AtLeast u l → AtLeast u (foldLeft mergeIn l ys)
+unfolding foldLeft
 least-fold u l [] h a = a
 least-fold u l (y ∷ ys) h a = least-fold u (mergeIn l y) ys (h .1) (least-merged u l y (h .0) a)
 
@@ -213,8 +213,8 @@ pub elements-merged : (Q : ℤ → Type 0) (l : List Merged) (b : Bar) → Q (b 
 unfolding own united
 elements-merged Q l b q a = merge-all (λ k. All Q (k .elements)) l b a (q, tt) (λ k p c x y. (united-stamps Q k b (b .time) x y q p q) .1)
 
-pub elements-fold : (Q : ℤ → Type 0) (l : List Merged) (ys : List Bar) → All (λ y. Q (y .time)) ys → All (λ k. All Q (k .elements)) l → All (λ k. All Q (k .elements)) (foldl mergeIn l ys)
-unfolding foldl
+pub elements-fold : (Q : ℤ → Type 0) (l : List Merged) (ys : List Bar) → All (λ y. Q (y .time)) ys → All (λ k. All Q (k .elements)) l → All (λ k. All Q (k .elements)) (foldLeft mergeIn l ys)
+unfolding foldLeft
 elements-fold Q l [] h a = a
 elements-fold Q l (y ∷ ys) h a = elements-fold Q (mergeIn l y) ys (h .1) (elements-merged Q l y (h .0) a)
 
@@ -230,8 +230,8 @@ some-merged : (l : List Merged) (b : Bar) → Some l → Two (mergeIn l b)
 some-merged [] b s = absurd s
 some-merged (h ∷ r) b s = two-merged h r b
 
-fold-some-two : (l : List Merged) (ys : List Bar) (b : Bar) → Some l → Two (foldl mergeIn l (ys ++ b ∷ []))
-unfolding foldl
+fold-some-two : (l : List Merged) (ys : List Bar) (b : Bar) → Some l → Two (foldLeft mergeIn l (ys ++ b ∷ []))
+unfolding foldLeft
 fold-some-two l [] b s = some-merged l b s
 fold-some-two l (y ∷ ys) b s = fold-some-two (mergeIn l y) ys b (two-some (mergeIn l y) (some-merged l y s))
 
@@ -245,9 +245,9 @@ unfolding mergeIn own
 single-merged u [] b h = (h, tt)
 single-merged u (x ∷ l) b h = two-single u (mergeIn (x ∷ l) b) (two-merged x l b)
 
-pub single-fold : (u : ℤ) (l : List Merged) (ys : List Bar) (b : Bar) → All (λ y. T (leZ u (y .time))) (ys ++ b ∷ []) → Single u (foldl mergeIn l (ys ++ b ∷ []))
-single-fold u [] ys b h = all-single u (foldl mergeIn [] (ys ++ b ∷ [])) (elements-fold (λ t. T (leZ u t)) [] (ys ++ b ∷ []) h tt)
-single-fold u (x ∷ l) ys b h = two-single u (foldl mergeIn (x ∷ l) (ys ++ b ∷ [])) (fold-some-two (x ∷ l) ys b tt)
+pub single-fold : (u : ℤ) (l : List Merged) (ys : List Bar) (b : Bar) → All (λ y. T (leZ u (y .time))) (ys ++ b ∷ []) → Single u (foldLeft mergeIn l (ys ++ b ∷ []))
+single-fold u [] ys b h = all-single u (foldLeft mergeIn [] (ys ++ b ∷ [])) (elements-fold (λ t. T (leZ u t)) [] (ys ++ b ∷ []) h tt)
+single-fold u (x ∷ l) ys b h = two-single u (foldLeft mergeIn (x ∷ l) (ys ++ b ∷ [])) (fold-some-two (x ∷ l) ys b tt)
 
 -- the elements of the last bar are not earlier than a floor
 pub last-elements : (u : ℤ) (p : List Merged) (k : Merged) → Ordered (p ++ k ∷ []) → AtLeast u (p ++ k ∷ []) → Single u (p ++ k ∷ []) → Elements u k

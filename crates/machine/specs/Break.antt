@@ -8,7 +8,6 @@ use Rattle.bars.specs.Bars.{Merged}
 use Rattle.bars.specs.Lists.{last, init}
 use Rattle.machine.specs.declared.Direction.{Direction}
 use Rattle.machine.specs.declared.Direction.the-variants.{Up, Down}
-use Rattle.machine.specs.Fractals.{Fractal}
 use Rattle.machine.specs.Strokes.{Stroke, directionOf}
 use Rattle.machine.specs.ByTime.{from}
 

@@ -10,7 +10,7 @@ use lib.Dec.{T}
 use Rattle.bars.specs.declared.Bar.{Bar}
 use Rattle.bars.specs.Lists.{All}
 use Rattle.machine.specs.Stand.{Settings, State, fresh}
-use Rattle.machine.specs.Feed.{Events, Step, step}
+use Rattle.machine.specs.Feed.{Events, step}
 use Rattle.machine.specs.Soundness.{settingsSound, soundBut, newestLast, sound}
 use Rattle.machine.specs.Calls.{FeedAnswer, feed, calls, accepted, eachLater}
 use Rattle.machine.specs.NewestOnly.{callsNewest}

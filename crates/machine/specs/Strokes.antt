@@ -29,6 +29,11 @@ unfoldable pub directionOf : Mark → Direction
 directionOf D = Up
 directionOf G = Down
 
+-- the other way
+unfoldable pub turned : Direction → Direction
+turned Up = Down
+turned Down = Up
+
 -- candidates for the end have the other mark, a later time and fx strictly beyond the start's
 unfoldable pub candidate : Fractal → Fractal → Bool
 unfolding sameMark timeOf fxOf beyond

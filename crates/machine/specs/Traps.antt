@@ -6,7 +6,6 @@ use mathlib.Core.List.{List, [], _∷_, map}
 use lib.IntN.{ℤ, pos}
 use Rattle.bars.specs.declared.Bar.{Bar}
 use Rattle.machine.specs.Fractals.{timeOf}
-use Rattle.machine.specs.Stand.{Settings}
 use Rattle.machine.specs.Calls.{calls}
 use Rattle.machine.specs.Unsound.{bar}
 

@@ -8,9 +8,8 @@ use lib.ListN.{length}
 use lib.IntN.{ℤ, pos}
 use lib.Ieee.{Float, binary64, ofInt}
 use Rattle.bars.specs.declared.Bar.{Bar}
-use Rattle.bars.specs.Bars.{Merged}
-use Rattle.machine.specs.Stand.{Settings, State, fresh}
-use Rattle.machine.specs.Feed.{Step, Events}
+use Rattle.machine.specs.Stand.{Settings}
+use Rattle.machine.specs.Feed.{Step}
 use Rattle.machine.specs.Soundness.{soundBut, newestLast}
 use Rattle.machine.specs.NewestOnly.{callsNewest}
 

@@ -1383,7 +1383,7 @@ pub fn report(
     fs: &[[i64; 6]],
     fp: &[[f64; 18]],
 ) {
-    if sound::is_sound(
+    if question4::is_sound(
         stand,
         rt,
         ri,

@@ -11,18 +11,19 @@ use lib.Seq.{length-take-le, drop-cons, getD-take, getD-drop, take-add, take-all
 use lib.IntN.{ℤ, pos}
 use lib.Signed.{ltZ}
 use lib.Ieee.{Float, nan}
-use Rattle.bars.specs.declared.Bar.{Bar}
 use Rattle.bars.specs.Bars.{rowOf}
 use Rattle.stores.specs.Stores.{barOf, zipWith}
 use Rattle.stores.proofs.Columns.{zip-at, zip-length}
-use Rattle.machine.specs.Fractals.{Fractal, timeOf}
-use Rattle.strokes.specs.Stored.{FractalStore, fractalStore, rowBar, fractalOf, rowFractal, storedFractals, noFractal, total}
-use Rattle.strokes.specs.StrokeStore.{stampsOf, pricesOf, stampRow, priceRow, RoomFractals, Fewer, pasted, putFractals}
+use Rattle.machine.specs.Fractals.{Fractal}
+use Rattle.strokes.specs.StateRead.{rowBar, fractalOf, rowFractal, storedFractals, noFractal, total}
+use Rattle.strokes.specs.Lent.{fractalStore}
+use Rattle.strokes.specs.Code.StrokeSteps.{RoomFractals, Fewer}
+use Rattle.strokes.specs.FractalRows.{stampsOf, pricesOf, stampRow, priceRow}
 use Rattle.strokes.proofs.StoredStrokes.{total-step}
 use Rattle.reports.specs.declared.fx_list.Listed.{Listed}
-use Rattle.reports.specs.FractalList.{isAfter, listIf, laterThan}
-use Rattle.reports.specs.FxListing.{lastTime, timeListed, Listing, listing, storeIf, stepIf, stepRow, stepFx, stepAll, CanList, strokeRows}
-use Rattle.reports.proofs.StrokeAt.{fewer-at}
+use Rattle.reports.specs.FractalList.{isAfter}
+use Rattle.reports.specs.Code.FxListing.{lastTime, timeListed, Listing, listing, storeIf, stepIf, stepRow, stepFx, stepAll, CanList, strokeRows}
+use Rattle.named.proofs.StrokeAt.{fewer-at}
 
 -- ---- one step
 

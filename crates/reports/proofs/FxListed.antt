@@ -13,13 +13,10 @@ use lib.Ieee.{Float}
 use Rattle.bars.specs.Bars.{Merged}
 use Rattle.bars.specs.Lists.{join}
 use Rattle.machine.specs.Fractals.{Fractal, timeOf}
-use Rattle.machine.specs.Strokes.{Stroke}
-use Rattle.strokes.specs.Stored.{FractalStore, fractalStore, strokeWith, strokesWith}
-use Rattle.strokes.specs.StrokeStore.{stampsOf, stampRow, priceRow, RoomFractals, pasted, putFractals}
-use Rattle.reports.specs.declared.fx_list.Listed.{Listed}
+use Rattle.strokes.specs.StateRead.{strokeWith, strokesWith}
+use Rattle.strokes.specs.FractalRows.{stampsOf, stampRow, priceRow}
 use Rattle.reports.specs.FractalList.{isAfter, listIf, laterThan, strokeFxs}
-use Rattle.reports.specs.FxListing.{lastTime, timeListed, Listing, listing, storeIf, stepIf, stepRow, stepFx, stepAll, CanList, strokeRows}
-use Rattle.reports.proofs.FxLaws.{can-next, count-all, listed-all}
+use Rattle.reports.specs.Code.FxListing.{lastTime, timeListed, Listing, stepIf, stepRow, stepFx, stepAll, strokeRows}
 
 -- ---- the fractals of the strokes
 

@@ -12,15 +12,17 @@ use lib.Ieee.{Float}
 use Rattle.stores.specs.Stores.{RawStore, rawBars}
 use Rattle.machine.specs.Fractals.{Fractal, checkFxs}
 use Rattle.strokes.specs.declared.Stand.{Stand}
-use Rattle.strokes.specs.Stored.{FractalStore, fractalStore, storedFractals, barCounts, fractalCounts, total}
-use Rattle.strokes.specs.StrokeStore.{stampRow, priceRow, RoomFractals, Fewer, plainBar, fractalsOf, putFractals}
+use Rattle.strokes.specs.StateRead.{storedFractals, barCounts, fractalCounts, total}
+use Rattle.strokes.specs.Lent.{FractalStore}
+use Rattle.strokes.specs.Code.StrokeSteps.{Fewer, plainBar, fractalsBetween}
+use Rattle.strokes.specs.FractalRows.{stampRow, priceRow, putFractals}
 use Rattle.strokes.proofs.StoredStrokes.{length-take-most, fxs-few}
-use Rattle.sound.proofs.SoundScans.{and-false}
+use Rattle.arith.proofs.Tests.{and-false}
 use Rattle.reports.specs.declared.fx_list.Listed.{Listed}
-use Rattle.reports.specs.declared.fx_answer.FxListAnswer.{FxListAnswer}
 use Rattle.reports.specs.FractalList.{isAfter, laterThan}
-use Rattle.reports.specs.FxListing.{lastTime, timeListed, Listing, listing, storeIf, stepIf, stepRow, stepFx, stepAll, CanList, strokeRows}
-use Rattle.reports.specs.FxAnswers.{allRows, CanGo, fitsAll, listedBy, outputBy, FxDone}
+use Rattle.reports.specs.Code.FxListing.{lastTime, timeListed, Listing, storeIf, stepIf, stepRow, stepFx, stepAll, CanList, strokeRows}
+use Rattle.reports.specs.FxAnswers.{fitsAll, listedBy, outputBy, FxDone}
+use Rattle.reports.specs.Code.FxRows.{allRows, CanGo}
 use Rattle.reports.proofs.FxLaws.{listed-all, all-append, can-front, can-back}
 use Rattle.reports.proofs.FxListed.{counted-are}
 use Rattle.reports.proofs.FxWritten.{written-are}
@@ -31,21 +33,21 @@ use borrow.Author.Tests.{le-leb, lt-leb}
 module _ (s : Stand) (u : RawStore) (f : FractalStore) (w : Bool) (x : Listing) where
   pub all-front : CanList w x (allRows s u f) → CanList w x (strokeRows (take (s .strokes) (s .bars)) (take (s .strokes) (s .fractals)) (storedFractals f))
   unfolding allRows barCounts fractalCounts
-  all-front h = can-front w x (strokeRows (barCounts s) (fractalCounts s) (storedFractals f)) (fractalsOf u 0 (s .unfinished)) h
+  all-front h = can-front w x (strokeRows (barCounts s) (fractalCounts s) (storedFractals f)) (fractalsBetween u 0 (s .unfinished)) h
 
   pub all-back : (y : Listing) → y ≡ stepAll w x (strokeRows (take (s .strokes) (s .bars)) (take (s .strokes) (s .fractals)) (storedFractals f)) → CanList w x (allRows s u f)
-      → CanList w y (fractalsOf u 0 (s .unfinished))
+      → CanList w y (fractalsBetween u 0 (s .unfinished))
   unfolding allRows barCounts fractalCounts
   all-back y e h =
-      subst (λ (z : Listing). CanList w z (fractalsOf u 0 (s .unfinished))) (sym e)
-      (can-back w x (strokeRows (barCounts s) (fractalCounts s) (storedFractals f)) (fractalsOf u 0 (s .unfinished)) h)
+      subst (λ (z : Listing). CanList w z (fractalsBetween u 0 (s .unfinished))) (sym e)
+      (can-back w x (strokeRows (barCounts s) (fractalCounts s) (storedFractals f)) (fractalsBetween u 0 (s .unfinished)) h)
 
   pub all-is : (y z : Listing) → y ≡ stepAll w x (strokeRows (take (s .strokes) (s .bars)) (take (s .strokes) (s .fractals)) (storedFractals f))
-      → z ≡ stepAll w y (fractalsOf u 0 (s .unfinished)) → z ≡ stepAll w x (allRows s u f)
+      → z ≡ stepAll w y (fractalsBetween u 0 (s .unfinished)) → z ≡ stepAll w x (allRows s u f)
   unfolding allRows barCounts fractalCounts
   all-is y z e q =
-      q ∙ ap (λ (t : Listing). stepAll w t (fractalsOf u 0 (s .unfinished))) e
-      ∙ sym (all-append w x (strokeRows (barCounts s) (fractalCounts s) (storedFractals f)) (fractalsOf u 0 (s .unfinished)))
+      q ∙ ap (λ (t : Listing). stepAll w t (fractalsBetween u 0 (s .unfinished))) e
+      ∙ sym (all-append w x (strokeRows (barCounts s) (fractalCounts s) (storedFractals f)) (fractalsBetween u 0 (s .unfinished)))
 
 pub strokes-asked : (s : Stand) (u : RawStore) (f : FractalStore) → CanGo s u f
     → (s .strokes ≤ 65) × (length (f .prices) ≡ length (f .stamps)) × (length (f .stamps) ≤ 65536) × (total (take (s .strokes) (s .bars)) ≤ length (f .stamps))
@@ -58,8 +60,8 @@ fewer-asked s u f h = h .fewer
 
 -- ---- they are few
 
-windows-few : (u : RawStore) (n : ℕ) → length (fractalsOf u 0 n) ≤ n
-unfolding fractalsOf checkFxs
+windows-few : (u : RawStore) (n : ℕ) → length (fractalsBetween u 0 n) ≤ n
+unfolding fractalsBetween checkFxs
 windows-few u n =
     let X = map plainBar (rawBars u) in
     let a = fxs-few none (take n X) in
@@ -83,7 +85,7 @@ unfolding allRows
 rows-few s u f h =
     let a = strokes-few (barCounts s) (fractalCounts s) (storedFractals f) (h .fewer) in
     let b = windows-few u (s .unfinished) in
-    let d = length-append (strokeRows (barCounts s) (fractalCounts s) (storedFractals f)) (fractalsOf u 0 (s .unfinished)) in
+    let d = length-append (strokeRows (barCounts s) (fractalCounts s) (storedFractals f)) (fractalsBetween u 0 (s .unfinished)) in
     let x = h .fits in
     let y = h .small in
     let z = h .few in

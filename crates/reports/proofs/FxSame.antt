@@ -9,21 +9,27 @@ use lib.ListN.{length, take, drop, length-map}
 use lib.IntN.{ℤ}
 use lib.Ieee.{Float}
 use Rattle.bars.specs.Bars.{Merged}
-use Rattle.stores.specs.Stores.{MergedStore, SizedMerged, RoomRaw, rawPart, rawBars, mergedBars}
+use Rattle.stores.specs.Stores.{MergedStore, rawPart, rawBars, mergedBars}
+use Rattle.stores.specs.Code.StoreRows.{SizedMerged}
 use Rattle.stores.proofs.Columns.{merged-bars}
 use Rattle.stores.proofs.KeptBars.{map-take}
 use Rattle.machine.specs.Fractals.{Fractal, timeOf, checkFxs, fxsAfter}
 use Rattle.strokes.specs.declared.Stand.{Stand}
-use Rattle.strokes.specs.Stored.{Stores, FractalStore, fractalStore, stateOf, storedFractals, barCounts, fractalCounts, bareBar, bareFractal}
-use Rattle.strokes.specs.StrokeStore.{stampsOf, pricesOf, stampRow, priceRow, plainBar, fractalsOf, pasted, putFractals}
+use Rattle.strokes.specs.StateRead.{stateOf, storedFractals, barCounts, fractalCounts, bareBar, bareFractal}
+use Rattle.strokes.specs.Lent.{Stores, FractalStore, fractalStore}
+use Rattle.strokes.specs.Code.StrokeSteps.{plainBar, fractalsBetween}
+use Rattle.strokes.specs.FractalRows.{stampRow, priceRow, pasted, putFractals}
 use Rattle.strokes.proofs.StoredFractals.{fxs-bare}
 use Rattle.strokes.proofs.StoredStrokes.{plain-bare, bare-twice}
-use Rattle.sound.specs.Question4.{question4, IsSound}
-use Rattle.sound.proofs.SoundFacts.{Facts, facts, is-sound}
+use Rattle.sound.specs.StandSound.{IsSound}
+use Rattle.question4.specs.Question4.{question4}
+use Rattle.sound.proofs.SoundFacts.{Facts, facts}
+use Rattle.question4.proofs.Question4Passed.{is-sound}
 use Rattle.reports.specs.declared.fx_answer.FxListAnswer.{FxListAnswer}
 use Rattle.reports.specs.FractalList.{isAfter, listIf, laterThan, strokeFxs, getFxList}
-use Rattle.reports.specs.FxListing.{strokeRows}
-use Rattle.reports.specs.FxAnswers.{allRows, CanGo, fitsAll, listedBy, outputBy, FxDone, fxListOf}
+use Rattle.reports.specs.Code.FxListing.{strokeRows}
+use Rattle.reports.specs.FxAnswers.{fitsAll, listedBy, outputBy, FxDone, fxListOf}
+use Rattle.reports.specs.Code.FxRows.{allRows, CanGo}
 use Rattle.reports.proofs.FxListed.{strokes-are}
 
 -- ---- without elements
@@ -75,8 +81,8 @@ same-done t l l' d d' r e h =
 
 -- ---- the fractals of the unfinished bars
 
-pub fractals-are : (u : MergedStore) (n end : ℕ) → SizedMerged u n → fractalsOf (rawPart u) 0 end ≡ map bareFractal (checkFxs (take end (mergedBars u)))
-unfolding fractalsOf checkFxs
+pub fractals-are : (u : MergedStore) (n end : ℕ) → SizedMerged u n → fractalsBetween (rawPart u) 0 end ≡ map bareFractal (checkFxs (take end (mergedBars u)))
+unfolding fractalsBetween checkFxs
 fractals-are u n end h =
     let U = mergedBars u in
     let e : map plainBar (rawBars (rawPart u)) ≡ map bareBar U = sym (ap (map plainBar) (merged-bars u n h)) ∙ plain-bare U in

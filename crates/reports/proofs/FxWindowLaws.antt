@@ -10,16 +10,18 @@ use lib.IntN.{ℤ}
 use lib.Ieee.{Float}
 use Rattle.bars.specs.declared.Bar.{Bar}
 use Rattle.bars.specs.Bars.{Merged}
-use Rattle.stores.specs.Stores.{RawStore, RoomRaw, barAt}
+use Rattle.stores.specs.Stores.{RawStore}
+use Rattle.stores.specs.Code.StoreRows.{RoomRaw, barAt}
 use Rattle.machine.specs.declared.Mark.{Mark}
 use Rattle.machine.specs.declared.Mark.the-variants.{D, G}
 use Rattle.machine.specs.Fractals.{Fractal, isTop, isBottom, checkFx, checkFxs, taken, pushIf, pushed, fxsAfter}
-use Rattle.strokes.specs.StrokeStore.{stampsOf, pricesOf, stampRow, priceRow, RoomFractals, plainBar, fractalsOf}
+use Rattle.strokes.specs.Code.StrokeSteps.{RoomFractals, plainBar, fractalsBetween}
+use Rattle.strokes.specs.FractalRows.{stampsOf, pricesOf, stampRow, priceRow}
 use Rattle.strokes.proofs.StoredFractals.{plains, plain-cons, none-left}
 use Rattle.reports.specs.declared.fx_windows.Window.{Window}
 use Rattle.reports.specs.declared.fx_list.Listed.{Listed}
-use Rattle.reports.specs.FxListing.{Listing, stepRow, stepFx, stepAll, CanList}
-use Rattle.reports.specs.FxTurns.{markIf, markOf, turnIf, turnBy, turn, foundIf}
+use Rattle.reports.specs.Code.FxListing.{Listing, stepRow, stepFx, stepAll, CanList}
+use Rattle.reports.specs.Code.FxTurns.{markIf, markOf, turnIf, turnBy, turn, foundIf}
 use Rattle.reports.proofs.FxLaws.{listed-same, all-append, can-front, can-back}
 
 -- ---- the mark of the last one taken
@@ -120,8 +122,8 @@ module _ (r : RawStore) (end i : ℕ) (h : RoomRaw r end) (k : i + 2 < end) (a b
       part-goes wr x y e (foundIf (n .found) (n .last) a b c) (fxsAfter (markOf n) (drop (i + 1) (plains r end))) (fxsAfter (markOf w) (drop i (plains r end))) window-cons s g l
 
 -- before the first window
-pub windows-start : (r : RawStore) (end : ℕ) (m : Mark) → fxsAfter (markOf (record { begun = false; last = m; found = false })) (drop 0 (plains r end)) ≡ fractalsOf r 0 end
-unfolding fractalsOf checkFxs markOf markIf
+pub windows-start : (r : RawStore) (end : ℕ) (m : Mark) → fxsAfter (markOf (record { begun = false; last = m; found = false })) (drop 0 (plains r end)) ≡ fractalsBetween r 0 end
+unfolding fractalsBetween checkFxs markOf markIf
 windows-start r end m = refl
 
 pub windows-done : (r : RawStore) (end i : ℕ) (p : Option Mark) (w : Bool) (x e : Listing) → end ≤ i + 2 → stepAll w x (fxsAfter p (drop i (plains r end))) ≡ e → x ≡ e

@@ -11,10 +11,10 @@ use lib.Seq.{take-suc-set, drop-set-lt, append-snoc}
 use lib.IntN.{ℤ, pos}
 use lib.Ieee.{Float}
 use Rattle.machine.specs.Fractals.{Fractal, timeOf}
-use Rattle.strokes.specs.Stored.{FractalStore, fractalStore}
-use Rattle.strokes.specs.StrokeStore.{stampsOf, stampRow, priceRow, pasted, putFractals}
+use Rattle.strokes.specs.Lent.{fractalStore}
+use Rattle.strokes.specs.FractalRows.{stampsOf, stampRow, priceRow, pasted, putFractals}
 use Rattle.reports.specs.FractalList.{isAfter, listIf, laterThan}
-use Rattle.reports.specs.FxListing.{lastTime, timeListed, Listing, storeIf, stepIf, stepRow, stepFx, stepAll, CanList}
+use Rattle.reports.specs.Code.FxListing.{timeListed, Listing, storeIf, stepIf, stepRow, stepFx, stepAll, CanList}
 use Rattle.reports.proofs.FxLaws.{can-next, count-all}
 use Rattle.reports.proofs.FxListed.{last-next}
 

@@ -15,20 +15,23 @@ use Rattle.bars.specs.declared.Bar.{Bar}
 use Rattle.bars.specs.Lists.{join}
 use Rattle.bars.specs.Merging.{atTimes}
 use Rattle.bars.specs.Bars.{rowOf}
-use Rattle.stores.specs.Stores.{RawStore, rawStore, MergedStore, RoomRaw, zipWith, rawBars, setBar, barAt, placeOf}
+use Rattle.stores.specs.Stores.{RawStore, rawStore, MergedStore, zipWith, rawBars}
+use Rattle.stores.specs.Code.StoreRows.{RoomRaw, setBar, barAt, placeOf}
 use Rattle.stores.proofs.Columns.{zip-at, zip-longer, zip-length}
 use Rattle.strokes.specs.declared.Stand.{Stand}
-use Rattle.strokes.specs.Stored.{Stores, stateOf}
-use Rattle.strokes.specs.StrokeStore.{pasted}
-use Rattle.sound.specs.Question4.{question4}
-use Rattle.sound.specs.SoundStand.{isTime}
-use Rattle.reports.specs.declared.stroke_rows.StrokeRows.{StrokeRows}
+use Rattle.strokes.specs.StateRead.{stateOf}
+use Rattle.strokes.specs.Lent.{Stores}
+use Rattle.strokes.specs.FractalRows.{pasted}
+use Rattle.question4.specs.Question4.{question4}
+use Rattle.sound.specs.Code.SoundStand.{isTime}
+use Rattle.named.specs.declared.stroke_rows.StrokeRows.{StrokeRows}
 use Rattle.reports.specs.declared.asked_raw_bars.RawBarsAnswer.{RawBarsAnswer}
 use Rattle.reports.specs.Measures.{getRawBars}
-use Rattle.reports.specs.ElementPrices.{elementsIn}
-use Rattle.reports.specs.NamedStrokes.{strokeIn, RowsStand, cut, innerRows}
-use Rattle.reports.specs.Reports.{nth, question14}
-use Rattle.reports.specs.InnerRawBars.{putBars, CanFind, namedBar, Filling, filling, putNamed, CanList, RawBarsListed, refusedBy, placesFor, listIf, listBars, rawBarsIf, rawBarsAt}
+use Rattle.reports.specs.Code.ElementPrices.{elementsIn}
+use Rattle.named.specs.Code.NamedRows.{strokeIn, RowsStand, cut, innerRows}
+use Rattle.named.specs.ReportQuestions.{nth, question14}
+use Rattle.reports.specs.InnerRawBars.{putBars, RawBarsListed, refusedBy, placesFor, listIf, listBars, rawBarsIf, rawBarsAt}
+use Rattle.reports.specs.Code.InnerRawSteps.{CanFind, namedBar, Filling, filling, putNamed, CanList}
 use Rattle.reports.proofs.MeasureLaws.{inner-elements, at-times, named-place}
 use Rattle.reports.proofs.StrokeColumns.{Lends, elements-named, can-measure, long, two, bars-read, raw-named}
 use borrow.Author.Tests.{le-leb, lt-leb}

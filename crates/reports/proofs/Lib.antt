@@ -1,6 +1,6 @@
 pub mod UnfinishedGiven
 pub mod MeasureLaws
-pub mod StrokeAt
+pub mod RowEnds
 pub mod ListLaws
 pub mod ListFacts
 pub mod UbiLaws

@@ -7,20 +7,21 @@ use mathlib.Core.List.{List, [], _∷_, map}
 use mathlib.Core.Option.{Option, none, some}
 use lib.ListN.{length, take, getD}
 use lib.Ieee.{Float, nan}
-use Rattle.bars.specs.Bars.{Merged}
-use Rattle.bars.specs.Lists.{last}
-use Rattle.stores.specs.Stores.{mergedBars, mergedWith, barOf}
-use Rattle.machine.specs.Strokes.{Stroke}
+use Rattle.stores.specs.Stores.{mergedBars, withFirst, barOf}
 use Rattle.strokes.specs.declared.Stand.{Stand}
 use Rattle.strokes.specs.declared.strokes_store.LastStroke.{LastStroke}
-use Rattle.strokes.specs.Stored.{Stores, stateOf}
-use Rattle.strokes.specs.StrokeStore.{LastStands, LastIs, lastRead, keptStrokes}
+use Rattle.strokes.specs.StateRead.{stateOf}
+use Rattle.strokes.specs.Lent.{Stores}
+use Rattle.strokes.specs.Code.StrokeSteps.{LastStands, LastIs, lastRead, keptStrokes}
 use Rattle.strokes.proofs.StoredStrokes.{last-is}
-use Rattle.sound.specs.Question4.{question4, IsSound}
-use Rattle.sound.proofs.SoundFacts.{Facts, facts, is-sound}
+use Rattle.sound.specs.StandSound.{IsSound}
+use Rattle.question4.specs.Question4.{question4}
+use Rattle.sound.proofs.SoundFacts.{Facts, facts}
+use Rattle.question4.proofs.Question4Passed.{is-sound}
 use Rattle.reports.specs.FractalList.{getFinishedBis, lastBiExtend}
-use Rattle.reports.specs.ListAnswers.{finishedCount, finishedBy, finishedAnswer, reaches, extendBy, extendAnswer}
-use Rattle.reports.specs.Reports.{runOf}
+use Rattle.reports.specs.ListAnswers.{finishedBy, finishedAnswer, extendBy, extendAnswer}
+use Rattle.reports.specs.Code.ListSteps.{finishedCount, reaches}
+use Rattle.named.specs.ReportQuestions.{runOf}
 use Rattle.reports.proofs.ListLaws.{finished-run, finished-count, column-read, extend-none, extend-empty, extend-is}
 
 pub not-zero : (k n : ℕ) → k ≡ n → (k ≡ 0 → ⊥) → 1 ≤ n
@@ -56,11 +57,11 @@ module _ (s : Stand) (m : Stores) (lb : length (s .bars) ≡ 65) (lf : length (s
   prices-long = rw (known .unfinished .raw .prices) (known .few-unfinished)
 
   highs : map (λ k. k .bar .high) (take (s .unfinished) (mergedBars (m .unfinished))) ≡ map (λ p. getD p 2 nan) (take (s .unfinished) (m .unfinished .prices))
-  unfolding mergedWith barOf
+  unfolding withFirst barOf
   highs = column-read (λ k. k .bar .high) (λ p. getD p 2 nan) (λ t i p n e. refl) (m .unfinished) (s .rooms .unfinished) (s .unfinished) (known .unfinished)
 
   lows : map (λ k. k .bar .low) (take (s .unfinished) (mergedBars (m .unfinished))) ≡ map (λ p. getD p 3 nan) (take (s .unfinished) (m .unfinished .prices))
-  unfolding mergedWith barOf
+  unfolding withFirst barOf
   lows = column-read (λ k. k .bar .low) (λ p. getD p 3 nan) (λ t i p n e. refl) (m .unfinished) (s .rooms .unfinished) (s .unfinished) (known .unfinished)
 
   pub extends-is : 1 ≤ s .strokes → 1 ≤ s .unfinished → (b : LastStroke) → b ≡ lastRead s (m .strokes .times) (m .fractals .prices) → (r : Bool)

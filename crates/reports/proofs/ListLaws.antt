@@ -11,10 +11,10 @@ use lib.Seq.{take-all, take-length, length-take-le, drop-cons, getD-take}
 use lib.Dec.{ltb}
 use lib.Ieee.{Float, nan, inf, lt}
 use borrow.Author.Tests.{lt-ltb, le-ltb}
-use Rattle.arith.specs.Order.{maxOf, minOf}
 use Rattle.bars.specs.Bars.{Merged}
-use Rattle.bars.specs.Lists.{foldl, last}
-use Rattle.stores.specs.Stores.{MergedStore, SizedMerged, mergedBars, mergedWith, rawBars, zipWith, barOf, mergedStore}
+use Rattle.bars.specs.Lists.{foldLeft, last}
+use Rattle.stores.specs.Stores.{MergedStore, mergedBars, withFirst, rawBars, zipWith, barOf, mergedStore}
+use Rattle.stores.specs.Code.StoreRows.{SizedMerged}
 use Rattle.stores.proofs.AgainBound.{init-length}
 use Rattle.machine.specs.declared.Direction.{Direction}
 use Rattle.machine.specs.declared.Direction.the-variants.{Up, Down}
@@ -22,10 +22,10 @@ use Rattle.machine.specs.Strokes.{Stroke, directionOf}
 use Rattle.machine.specs.Break.{highOf, lowOf}
 use Rattle.sound.proofs.SoundReads.{Rows, no-rows, next, rows-of, merged-take, init-take}
 use Rattle.sound.proofs.SoundMeans.{length-to}
-use Rattle.reports.specs.Folds.{greatest, least}
+use Rattle.named.specs.Folds.{greatest, least}
 use Rattle.reports.specs.FractalList.{finishedIf, getFinishedBis, extends, extendsLast, lastBiExtend}
-use Rattle.reports.specs.Reports.{runOf}
-use Rattle.reports.specs.ListAnswers.{finishedCount, reaches}
+use Rattle.named.specs.ReportQuestions.{runOf}
+use Rattle.reports.specs.Code.ListSteps.{finishedCount, reaches}
 
 -- ---- the finished strokes
 
@@ -61,32 +61,32 @@ count-less k n r h e = e ∙ ap (λ (t : Bool). cond t (k - 1) k) (sym (lt-ltb n
 
 -- one row more, of the first n
 pub fold-row : (f : Float → Float → Float) (g : List Float → Float) (l : List (List Float)) (n i : ℕ) (s s' e : Float) → n ≤ length l → i < n
-    → s' ≡ f s (g (getD l i [])) → foldl f s (map g (drop i (take n l))) ≡ e → foldl f s' (map g (drop (i + 1) (take n l))) ≡ e
-unfolding foldl
+    → s' ≡ f s (g (getD l i [])) → foldLeft f s (map g (drop i (take n l))) ≡ e → foldLeft f s' (map g (drop (i + 1) (take n l))) ≡ e
+unfolding foldLeft
 fold-row f g l n i s s' e h k q w =
     let z : length (take n l) ≡ n = length-take-le n l h in
     let c : drop i (take n l) ≡ getD l i [] ∷ drop (suc i) (take n l) =
     drop-cons (take n l) i [] (omega arith) ∙ ap (λ (x : List Float). x ∷ drop (suc i) (take n l)) (getD-take n l i [] k) in
-    rw (add-one, q) (sym (ap (λ (x : List (List Float)). foldl f s (map g x)) c) ∙ w)
+    rw (add-one, q) (sym (ap (λ (x : List (List Float)). foldLeft f s (map g x)) c) ∙ w)
 
 pub fold-rows-end : (f : Float → Float → Float) (g : List Float → Float) (l : List (List Float)) (n i : ℕ) (s e : Float) → n ≤ i
-    → foldl f s (map g (drop i (take n l))) ≡ e → s ≡ e
-unfolding foldl
+    → foldLeft f s (map g (drop i (take n l))) ≡ e → s ≡ e
+unfolding foldLeft
 fold-rows-end f g l n i s e h w =
     let z : length (take n l) ≤ i = rw length-take (omega arith) in
-    sym (ap (λ (x : List (List Float)). foldl f s (map g x)) (drop-of-length-le (take n l) {i = i} z)) ∙ w
+    sym (ap (λ (x : List (List Float)). foldLeft f s (map g x)) (drop-of-length-le (take n l) {i = i} z)) ∙ w
 
 -- ---- beyond the last stroke
 
 -- what is read of the rows of prices of the first n unfinished bars
 column : {A : Type 0} {ts is : _} {ps : List (List Float)} {cs : _} {es : _} (g : Merged → A) (r : List Float → A)
-    → ((t i : _) (p : List Float) (n : ℕ) (e : _) → g (mergedWith (barOf t i p) n e) ≡ r p)
+    → ((t i : _) (p : List Float) (n : ℕ) (e : _) → g (withFirst (barOf t i p) n e) ≡ r p)
     → Rows ts is ps cs es → map g (mergedBars (mergedStore ts is ps cs es)) ≡ map r ps
 unfolding mergedBars rawBars zipWith
 column g r q no-rows = refl
 column g r q (next {t = t} {i = i} {p = p} {n = n} {e = e} w) = λ j. q t i p n e j ∷ column g r q w j
 
-pub column-read : {A : Type 0} (g : Merged → A) (r : List Float → A) → ((t i : _) (p : List Float) (n : ℕ) (e : _) → g (mergedWith (barOf t i p) n e) ≡ r p)
+pub column-read : {A : Type 0} (g : Merged → A) (r : List Float → A) → ((t i : _) (p : List Float) (n : ℕ) (e : _) → g (withFirst (barOf t i p) n e) ≡ r p)
     → (u : MergedStore) (k n : ℕ) → SizedMerged u k → map g (take n (mergedBars u)) ≡ map r (take n (u .prices))
 column-read g r q u k n h =
     ap (map g) (merged-take n u)

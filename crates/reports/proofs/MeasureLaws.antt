@@ -11,7 +11,8 @@ use lib.IntN.{ℤ, pos}
 use lib.Dec.{T, ltb, ltb→lt}
 use lib.Ieee.{Float, fin, nan, fits, binary64, add, sub, div, eq}
 use lib.Ieee.Fits.{and-l, and-r, nan-fits, and-i}
-use Rattle.arith.specs.Sums.{sumOf, plus, zeroF, meanMore, fitMore, snrMore, slopeMore, meanStart, fitStart, snrStart, slopeStart, fitEnd, snrEnd, slopeEnd, accelerationOf, snrOf, slopeOf}
+use Rattle.arith.specs.Sums.{sumOf, plus, zeroF, accelerationOf, snrOf, slopeOf}
+use Rattle.arith.specs.Code.Accumulators.{meanMore, fitMore, snrMore, slopeMore, meanStart, fitStart, snrStart, slopeStart, fitEnd, snrEnd, slopeEnd}
 use Rattle.arith.specs.declared.sums.MeanSums.{MeanSums}
 use Rattle.arith.specs.declared.sums.FitSums.{FitSums}
 use Rattle.arith.specs.declared.sums.SnrSums.{SnrSums}
@@ -22,7 +23,8 @@ use Rattle.bars.specs.declared.Bar.{Bar}
 use Rattle.bars.specs.Bars.{Merged}
 use Rattle.bars.specs.Lists.{every, join, init, keepIf}
 use Rattle.bars.specs.Merging.{atTimes}
-use Rattle.stores.specs.Stores.{RawStore, MergedStore, SizedRaw, SizedMerged, rawPart, zipWith, mergedWith, barOf, barAt, rawBars, mergedBars, rising, placeOf}
+use Rattle.stores.specs.Stores.{RawStore, MergedStore, rawPart, zipWith, withFirst, barOf, rawBars, mergedBars}
+use Rattle.stores.specs.Code.StoreRows.{SizedRaw, SizedMerged, barAt, rising, placeOf}
 use Rattle.stores.proofs.Columns.{zip-at, zip-longer, zip-take, zip-drop, zip-length, raw-length, raw-prices, merged-bars, merged-length}
 use Rattle.stores.proofs.KeptBars.{map-take, kept-named}
 use lib.Signed.{leZ}
@@ -31,13 +33,12 @@ use Rattle.machine.specs.declared.Mark.the-variants.{D, G}
 use Rattle.machine.specs.Fractals.{Fractal, fxOf}
 use Rattle.machine.specs.Strokes.{Stroke}
 use Rattle.reports.specs.Measures.{change, changeIf, volumeOf, closesOf, opensAndCloses, snr, powerSnr, slope, acceleration, powerPrice, powerVolume, elementsOf, measuresWith}
-use Rattle.reports.specs.ElementPrices.{endOf, elementsIn, pricesAt, meanAt, fitAt, snrAt, slopeAt, fitsAt}
-use Rattle.reports.specs.declared.measures.Measures.{Measures}
+use Rattle.reports.specs.Code.ElementPrices.{endOf, elementsIn, pricesAt, meanAt, fitAt, snrAt, slopeAt, fitsAt}
 use Rattle.reports.specs.declared.measures.StrokeEnd.{StrokeEnd}
 use Rattle.machine.specs.Break.{highOf, lowOf}
 use Rattle.machine.specs.Soundness.{sameTime, inner}
-use Rattle.sound.specs.SoundStand.{isTime, atPlace, namedRows}
-use Rattle.machine.proofs.Times.{le-antisym}
+use Rattle.sound.specs.Code.SoundStand.{isTime, atPlace, namedRows}
+use Rattle.bars.proofs.Times.{le-antisym}
 use Rattle.strokes.proofs.StoredRaw.{init-take}
 use Rattle.strokes.proofs.BareStates.{map-drop}
 use Rattle.sound.proofs.SoundNames.{place-named}
@@ -279,8 +280,8 @@ map-both : {A B C : Type 0} (g : B → C) (f : A → B) (l : List A) → map (λ
 map-both g f [] = refl
 map-both g f (a ∷ l) = ap (λ r. g (f a) ∷ r) (map-both g f l)
 
-zip-elements : (bs : List Bar) (cs : List ℕ) (es : List (List ℤ)) → length bs ≡ length cs → map (λ k. k .elements) (zipWith (λ f e. f e) (zipWith mergedWith bs cs) es) ≡ zipWith take cs es
-unfolding zipWith mergedWith
+zip-elements : (bs : List Bar) (cs : List ℕ) (es : List (List ℤ)) → length bs ≡ length cs → map (λ k. k .elements) (zipWith (λ f e. f e) (zipWith withFirst bs cs) es) ≡ zipWith take cs es
+unfolding zipWith withFirst
 zip-elements [] [] es q = refl
 zip-elements [] (c ∷ cs) es q = let w : ⊥ = omega arith in absurd w
 zip-elements (b ∷ bs) [] es q = let w : ⊥ = omega arith in absurd w

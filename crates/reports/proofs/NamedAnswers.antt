@@ -10,33 +10,29 @@ use lib.Ieee.{Float}
 use lib.Dec.{ltb}
 use lib.ListN.{length, getD}
 use borrow.Author.Tests.{ltb-true, ltb-false}
-use Rattle.bars.specs.declared.Bar.{Bar}
 use Rattle.stores.specs.Stores.{barOf}
 use Rattle.machine.specs.declared.Mark.{Mark}
 use Rattle.machine.specs.declared.Mark.the-variants.{D, G}
 use Rattle.machine.specs.Fractals.{Fractal}
 use Rattle.machine.specs.Strokes.{Stroke}
 use Rattle.strokes.specs.declared.Stand.{Stand}
-use Rattle.strokes.specs.Stored.{Stores, rowBar, fractalOf, rowFractal, noFractal, stateOf}
-use Rattle.sound.specs.Question4.{question4, IsSound}
-use Rattle.sound.proofs.SoundFacts.{Facts, facts, is-sound}
-use Rattle.reports.specs.declared.measures.Measures.{Measures}
-use Rattle.reports.specs.declared.stroke_rows.StrokeRows.{StrokeRows}
+use Rattle.strokes.specs.StateRead.{rowBar, fractalOf, rowFractal, noFractal, stateOf}
+use Rattle.strokes.specs.Lent.{Stores}
+use Rattle.question4.specs.Question4.{question4}
+use Rattle.sound.proofs.SoundFacts.{facts}
+use Rattle.question4.proofs.Question4Passed.{is-sound}
+use Rattle.named.specs.declared.stroke_rows.StrokeRows.{StrokeRows}
 use Rattle.reports.specs.declared.asked_measures.MeasuresAnswer.{MeasuresAnswer}
 use Rattle.reports.specs.Measures.{measuresOf}
 use Rattle.reports.specs.declared.fractal_answers.FractalAnswers.{FractalAnswers}
 use Rattle.reports.specs.declared.asked_fractals.FractalAnswer.{FractalAnswer}
 use Rattle.reports.specs.FractalAnswers.{strengthAt, powerStr, fractalVolume, hasZs, answersOf}
 use Rattle.reports.specs.NamedFractals.{noAnswers, answersIf, strokeAnswersAt}
-use Rattle.reports.specs.Reports.{nth, fractalsOf, fractalAt}
-use Rattle.reports.specs.NamedStrokes.{strokeIn, RowsStand, noMeasures, measuresIf, measuresAt}
+use Rattle.named.specs.ReportQuestions.{nth, fractalsOf, fractalAt}
+use Rattle.reports.specs.NamedStrokes.{noMeasures, measuresIf, measuresAt}
+use Rattle.named.specs.Code.NamedRows.{strokeIn, RowsStand}
 use Rattle.reports.proofs.StrokeColumns.{Lends}
-
-pub nth-none : {A : Type 0} (l : List A) (i : ℕ) → length l ≤ i → nth l i ≡ none
-unfolding nth
-nth-none [] i h = refl
-nth-none (a ∷ l) zero h = let w : ⊥ = omega arith in absurd w
-nth-none (a ∷ l) (suc i) h = nth-none l i (omega arith)
+use Rattle.named.proofs.StrokeAt.{nth-none, nth-at}
 
 -- there is no such stroke
 pub stroke-none : (s : Stand) (m : Stores) (i : ℕ) → question4 s m ≡ true → length (s .bars) ≡ 65 → length (s .fractals) ≡ 65 → s .strokes ≤ i → nth ((stateOf s m) .strokes) i ≡ none
@@ -63,12 +59,6 @@ module _ (s : Stand) (m : Stores) (i : ℕ) where
   measures-given r b f e q n = (λ j. record { failed = f j; measures = e j }) ∙ (λ j. measuresIf (sym q j) ((stateOf s m) .raw) (sym n j))
 
 -- ---- a stroke's fractals
-
-pub nth-at : {A : Type 0} (l : List A) (i : ℕ) (z : A) → i < length l → nth l i ≡ some (getD l i z)
-unfolding nth
-nth-at [] i z h = let w : ⊥ = omega arith in absurd w
-nth-at (a ∷ l) zero z h = refl
-nth-at (a ∷ l) (suc i) z h = nth-at l i z (omega arith)
 
 -- no answer asks a stamp
 strength-stamps : (k : Mark) (t : List ℤ) (p : List Float) → strengthAt k (rowFractal t p) ≡ strengthAt k (rowFractal [] p)

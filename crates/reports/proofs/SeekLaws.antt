@@ -8,28 +8,30 @@ use mathlib.Core.Option.{Option, none, some, Option·map}
 use lib.ListN.{length, take, drop, getD, length-take, length-drop}
 use Rattle.bars.specs.declared.Bar.{Bar}
 use Rattle.bars.specs.Bars.{Merged}
-use Rattle.stores.specs.Stores.{RawStore, MergedStore, RoomRaw, SizedMerged, rawPart, rawBars, mergedBars, barAt}
+use Rattle.stores.specs.Stores.{RawStore, MergedStore, rawPart, rawBars, mergedBars}
+use Rattle.stores.specs.Code.StoreRows.{RoomRaw, SizedMerged, barAt}
 use Rattle.stores.proofs.Columns.{merged-bars}
 use Rattle.stores.proofs.KeptBars.{map-take}
 use Rattle.machine.specs.declared.Mark.{Mark}
 use Rattle.machine.specs.declared.Mark.the-variants.{D, G}
 use Rattle.machine.specs.Fractals.{Fractal, sameMark, isTop, isBottom, checkFx, taken, pushIf, pushed, fxsAfter, checkFxs}
 use Rattle.strokes.specs.declared.Stand.{Stand}
-use Rattle.strokes.specs.Stored.{Stores, bareBar, bareFractal, stateOf}
-use Rattle.strokes.specs.StrokeStore.{plainBar, fractalsOf}
+use Rattle.strokes.specs.StateRead.{bareBar, bareFractal, stateOf}
+use Rattle.strokes.specs.Lent.{Stores}
+use Rattle.strokes.specs.Code.StrokeSteps.{plainBar, fractalsBetween}
 use Rattle.strokes.proofs.StoredFractals.{plains, fxs-bare, plain-cons, none-left}
 use Rattle.strokes.proofs.StoredStrokes.{plain-bare}
 use Rattle.strokes.proofs.StoredUnfinished.{room-of}
-use Rattle.sound.specs.Question4.{question4}
-use Rattle.sound.proofs.SoundFits.{Fit}
-use Rattle.sound.proofs.SoundFacts.{is-sound, sound-fit}
+use Rattle.question4.specs.Question4.{question4}
+use Rattle.sound.proofs.SoundFacts.{sound-fit}
+use Rattle.question4.proofs.Question4Passed.{is-sound}
 use Rattle.reports.specs.declared.fractal_answers.FractalAnswers.{FractalAnswers}
 use Rattle.reports.specs.declared.asked_fractals.FractalAnswer.{FractalAnswer}
 use Rattle.reports.specs.declared.seek_fractals.Sought.{Sought}
 use Rattle.reports.specs.FractalAnswers.{strengthAt, powerStr, fractalVolume, hasZs, answersOf}
-use Rattle.reports.specs.Reports.{nth, unfinishedAt}
+use Rattle.named.specs.ReportQuestions.{nth, unfinishedAt}
 use Rattle.reports.specs.NamedFractals.{noAnswers, answersIf, unfinishedAnswersAt}
-use Rattle.reports.specs.SeekFractals.{plainFractal, lastIf, lastSought, passed, passIf, passFractal, passWindow, seekUnless, seekWindow, foundIf, foundOf, answerOr13}
+use Rattle.reports.specs.Code.SeekFractals.{plainFractal, lastIf, lastSought, passed, passIf, passFractal, passWindow, seekUnless, seekWindow, foundIf, foundOf, answerOr13}
 
 -- what the search gives, where the fractals that are left follow the mark of the last one taken
 unfoldable pub meantIf : Bool → Sought → (Option Mark → List Fractal) → Option FractalAnswers
@@ -104,8 +106,8 @@ seek-end r end i k ans h e =
 
 -- before the first window
 pub seek-start : (r : RawStore) (end j : ℕ) (k : Sought) → k .skip ≡ j → k .any ≡ false → k .found ≡ false
-    → meant k (rest r end 0) ≡ Option·map answersOf (nth (fractalsOf r 0 end) j)
-unfolding meantIf lastSought lastIf fractalsOf checkFxs
+    → meant k (rest r end 0) ≡ Option·map answersOf (nth (fractalsBetween r 0 end) j)
+unfolding meantIf lastSought lastIf fractalsBetween checkFxs
 seek-start r end j k e a f =
     (λ t. meantIf (f t) k (rest r end 0))
     ∙ (λ t. Option·map answersOf (nth (fxsAfter (lastIf (a t) (k .last)) (plains r end)) (e t)))
@@ -132,8 +134,8 @@ bare-option none = refl
 bare-option (some f) = ap some (answers-bare f)
 
 pub sought-is : (u : MergedStore) (w n j : ℕ) → SizedMerged u w
-    → Option·map answersOf (nth (fractalsOf (rawPart u) 0 n) j) ≡ Option·map answersOf (unfinishedAt (take n (mergedBars u)) j)
-unfolding fractalsOf unfinishedAt checkFxs
+    → Option·map answersOf (nth (fractalsBetween (rawPart u) 0 n) j) ≡ Option·map answersOf (unfinishedAt (take n (mergedBars u)) j)
+unfolding fractalsBetween unfinishedAt checkFxs
 sought-is u w n j h =
     let U = mergedBars u in
     let e : map plainBar (rawBars (rawPart u)) ≡ map bareBar U = sym (ap (map plainBar) (merged-bars u w h)) ∙ plain-bare U in
@@ -215,7 +217,7 @@ module _ (s : Stand) (m : Stores) (j : ℕ) where
   unfinished-unsound r e q = e ∙ ap (λ (t : Bool). answersIf t (unfinishedAt ((stateOf s m) .unfinished) j)) (sym q)
 
   pub unfinished-given : (r : FractalAnswer) (k : Sought) → r ≡ answerOr13 (foundOf k)
-      → foundOf k ≡ Option·map answersOf (nth (fractalsOf (rawPart (m .unfinished)) 0 (s .unfinished)) j) → question4 s m ≡ true → r ≡ unfinishedAnswersAt s m j
+      → foundOf k ≡ Option·map answersOf (nth (fractalsBetween (rawPart (m .unfinished)) 0 (s .unfinished)) j) → question4 s m ≡ true → r ≡ unfinishedAnswersAt s m j
   unfolding unfinishedAnswersAt stateOf
   unfinished-given r k e f q =
       let w = sound-fit s m (is-sound s m q) in

@@ -12,29 +12,30 @@ use lib.Seq.{length-take-le}
 use lib.Ieee.{Float, nan}
 use lib.Ieee.Fits.{and-l, and-r}
 use Rattle.bars.specs.declared.Bar.{Bar}
-use Rattle.bars.specs.Bars.{Merged}
 use Rattle.bars.specs.Lists.{every, join}
 use Rattle.bars.specs.Merging.{atTimes}
-use Rattle.stores.specs.Stores.{RawStore, MergedStore, SizedRaw, SizedMerged, zipWith, barOf, rawBars, mergedBars, rising}
+use Rattle.stores.specs.Stores.{RawStore, MergedStore, zipWith, barOf, rawBars, mergedBars}
+use Rattle.stores.specs.Code.StoreRows.{SizedRaw, SizedMerged, rising}
 use Rattle.stores.proofs.KeptBars.{kept-times}
 use Rattle.machine.specs.Fractals.{Fractal}
 use Rattle.machine.specs.Strokes.{Stroke}
 use Rattle.machine.specs.Soundness.{barTimes, isNamed, inner, strokesPass, elementsKept, asked}
 use Rattle.strokes.specs.declared.Stand.{Stand}
-use Rattle.strokes.specs.Stored.{Stores, strokeWith, barCounts, total, stateOf, rowFractal}
-use Rattle.sound.specs.SoundStand.{isTime, namedRows}
-use Rattle.sound.specs.Question4.{IsSound}
+use Rattle.strokes.specs.StateRead.{strokeWith, total, stateOf, rowFractal}
+use Rattle.strokes.specs.Lent.{Stores}
+use Rattle.sound.specs.Code.SoundStand.{isTime, namedRows}
+use Rattle.sound.specs.StandSound.{IsSound}
 use Rattle.sound.proofs.SoundReads.{named-elements}
-use Rattle.sound.proofs.SoundFits.{Fit}
 use Rattle.sound.proofs.SoundFacts.{Facts, facts, sound-fit}
-use Rattle.reports.specs.declared.measures.StrokeEnd.{StrokeEnd}
-use Rattle.reports.specs.declared.stroke_rows.StrokeRows.{StrokeRows}
-use Rattle.reports.specs.Measures.{elementsOf, getRawBars, closesOf, opensAndCloses}
-use Rattle.reports.specs.ElementPrices.{endOf, elementsIn, closeAt, openCloseAt, InColumns}
-use Rattle.reports.specs.Reports.{nth}
-use Rattle.reports.specs.NamedStrokes.{rowsOf, endRow, strokeIn, RowsStand, cut, CanMeasure, ShownBy}
+use Rattle.named.specs.declared.stroke_rows.StrokeRows.{StrokeRows}
+use Rattle.reports.specs.Measures.{getRawBars, closesOf, opensAndCloses}
+use Rattle.reports.specs.Code.ElementPrices.{endOf, elementsIn, InColumns}
+use Rattle.named.specs.ReportQuestions.{nth}
+use Rattle.reports.specs.Code.MeasuredRows.{CanMeasure, ShownBy}
+use Rattle.named.specs.Code.NamedRows.{rowsOf, endRow, strokeIn, RowsStand, cut}
 use Rattle.reports.proofs.MeasureLaws.{inner-vols, inner-rows, inner-elements, prices-read, every-append}
-use Rattle.reports.proofs.StrokeAt.{stroke-at, first-within, rows-stand, bars-length, fractals-length, fractal-row, start-is, stop-is, every-nth}
+use Rattle.named.proofs.StrokeAt.{stroke-at, first-within, rows-stand, bars-length, fractals-length, fractal-row, every-nth}
+use Rattle.reports.proofs.RowEnds.{start-is, stop-is}
 
 -- rows m places long behind place a
 abbrev pub part : {A : Type 0} → ℕ → ℕ → List A → List A

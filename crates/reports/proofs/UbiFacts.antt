@@ -8,30 +8,32 @@ use mathlib.Core.Option.{Option, none, some}
 use lib.ListN.{length, take, drop}
 use lib.Seq.{length-take-le}
 use lib.IntN.{ℤ}
-use Rattle.bars.specs.declared.Bar.{Bar}
-use Rattle.bars.specs.Bars.{Merged}
 use Rattle.bars.specs.Lists.{join, last}
 use Rattle.bars.specs.Merging.{atTimes}
-use Rattle.stores.specs.Stores.{RawStore, MergedStore, RoomRaw, rawPart, rawBars, mergedBars, barAt, zipWith}
+use Rattle.stores.specs.Stores.{rawPart, rawBars, mergedBars, zipWith}
+use Rattle.stores.specs.Code.StoreRows.{RoomRaw, barAt}
 use Rattle.machine.specs.declared.Direction.{Direction}
-use Rattle.machine.specs.Strokes.{Stroke, directionOf}
+use Rattle.machine.specs.Strokes.{Stroke, turned}
 use Rattle.check_bi.specs.declared.scan.Scan.{Scan}
-use Rattle.check_bi.specs.Scan.{candleOf, scanOf}
-use Rattle.check_bi.specs.View.{view, candles}
+use Rattle.check_bi.specs.Code.Scan.{candleOf, scanOf}
+use Rattle.check_bi.specs.Code.View.{view, candles}
 use Rattle.strokes.specs.declared.Stand.{Stand}
 use Rattle.strokes.specs.declared.strokes_store.LastStroke.{LastStroke}
-use Rattle.strokes.specs.Stored.{Stores, stateOf}
-use Rattle.strokes.specs.StrokeStore.{lastRead, keptStrokes}
-use Rattle.sound.specs.Question4.{question4, IsSound}
+use Rattle.strokes.specs.StateRead.{stateOf}
+use Rattle.strokes.specs.Lent.{Stores}
+use Rattle.strokes.specs.Code.StrokeSteps.{lastRead, keptStrokes}
+use Rattle.sound.specs.StandSound.{IsSound}
+use Rattle.question4.specs.Question4.{question4}
 use Rattle.sound.proofs.SoundFacts.{Facts, facts}
 use Rattle.reports.specs.declared.ubi.Extremes.{Extremes}
 use Rattle.reports.specs.declared.ubi.FractalBars.{FractalBars}
 use Rattle.reports.specs.declared.ubi.UbiAnswer.{UbiAnswer}
 use Rattle.reports.specs.Measures.{elementsOf}
-use Rattle.reports.specs.Unfinished.{turned, getUbi}
-use Rattle.reports.specs.UbiAnswers.{RisingFirst, noneSeen, see, seeAt, threeBars, noUbi, ubiOf, ubiGiven, ubiBy, ubiAnswer}
+use Rattle.reports.specs.Unfinished.{getUbi}
+use Rattle.reports.specs.UbiAnswers.{threeBars, noUbi, ubiGiven, ubiBy, ubiAnswer}
+use Rattle.reports.specs.Code.UbiSteps.{RisingFirst, noneSeen, see, seeAt, ubiOf}
 use Rattle.reports.proofs.ListFacts.{last-known}
-use Rattle.reports.proofs.UbiLaws.{see-times, none-seen, some-seen, Seen, FirstIs, first-is, no-fractals, scan-read, elements-read, three-read, refused-last, refused-bars, refused-fractals, given-is}
+use Rattle.reports.proofs.UbiLaws.{see-times, none-seen, some-seen, FirstIs, first-is, no-fractals, scan-read, elements-read, three-read, refused-last, refused-bars, refused-fractals, given-is}
 
 -- what the code has seen and scanned
 abbrev pub SeenAll : Stand → Stores → Extremes → Extremes → Type 0

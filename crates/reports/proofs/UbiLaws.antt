@@ -14,28 +14,28 @@ use Rattle.bars.specs.declared.Bar.{Bar}
 use Rattle.bars.specs.Bars.{Merged, mergedOf}
 use Rattle.bars.specs.Lists.{keepIf, last, join, All}
 use Rattle.bars.specs.Merging.{atTimes}
-use Rattle.stores.specs.Stores.{RawStore, MergedStore, SizedRaw, SizedMerged, RoomRaw, RoomMerged, rawPart, rawBars, mergedBars, mergedStore, barAt, newBarAt, zipWith, rising}
+use Rattle.stores.specs.Stores.{RawStore, MergedStore, rawPart, mergedBars, zipWith}
+use Rattle.stores.specs.Code.StoreRows.{SizedMerged, barAt, newBarAt}
 use Rattle.stores.proofs.Columns.{merged-at}
-use Rattle.machine.specs.declared.Mark.{Mark}
 use Rattle.machine.specs.declared.Direction.{Direction}
-use Rattle.machine.specs.Fractals.{Fractal, Placed, checkFxs, fxsAfter, placedAfter, placedFxs}
-use Rattle.machine.specs.Strokes.{Stroke, directionOf}
+use Rattle.machine.specs.Fractals.{Fractal, Placed, checkFxs, placedAfter, placedFxs}
+use Rattle.machine.specs.Strokes.{Stroke, directionOf, turned}
 use Rattle.machine.proofs.Places.{fractal, Stands, placed-are, placed-stand, placed-ascend, Ascend, fits}
 use Rattle.check_bi.specs.declared.scan.Scan.{Scan}
-use Rattle.check_bi.specs.declared.scan.Fx.{Fx}
-use Rattle.check_bi.specs.Scan.{candleOf, fxAt, fxPlaced, scanOf}
-use Rattle.check_bi.specs.View.{view, candles}
+use Rattle.check_bi.specs.declared.check_fx.Fx.{Fx}
+use Rattle.check_bi.specs.Code.Scan.{candleOf, fxAt, fxPlaced, scanOf}
+use Rattle.check_bi.specs.Code.View.{view, candles}
 use Rattle.check_bi.proofs.ScanPlaces.{seenOf, scan-is, saw, count-means}
 use Rattle.check_bi.proofs.ScanViews.{candles-are}
-use Rattle.strokes.specs.StoreSteps.{RisingRaw}
+use Rattle.strokes.specs.Code.BarSteps.{RisingRaw}
 use Rattle.strokes.proofs.StoredAgain.{keeping}
 use Rattle.sound.proofs.SoundReads.{rows-of, merged-take, merged-elements}
 use Rattle.reports.specs.declared.ubi.Extremes.{Extremes}
 use Rattle.reports.specs.declared.ubi.FractalBars.{FractalBars}
-use Rattle.reports.specs.declared.ubi.UbiAnswer.{UbiAnswer}
 use Rattle.reports.specs.Measures.{elementsOf}
-use Rattle.reports.specs.Unfinished.{oneOf, highest, lowest, turned, Ubi, ubiWith, ubiFrom, getUbi}
-use Rattle.reports.specs.UbiAnswers.{RisingFirst, noBar, noneSeen, seeIf, see, seeAt, threeBars, noUbi, ubiOf, ubiGiven}
+use Rattle.reports.specs.Unfinished.{oneOf, highest, lowest, ubiWith, ubiFrom, getUbi}
+use Rattle.reports.specs.UbiAnswers.{threeBars, noUbi, ubiGiven}
+use Rattle.reports.specs.Code.UbiSteps.{RisingFirst, noneSeen, seeIf, see, seeAt, ubiOf}
 
 -- ---- one bar more
 

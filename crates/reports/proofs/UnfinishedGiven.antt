@@ -16,7 +16,7 @@ use Rattle.machine.specs.Strokes.{Stroke}
 use Rattle.machine.specs.Stand.{Settings, State}
 use Rattle.machine.specs.Soundness.{sameTime, names, endsOn, closes, newestIn, newestLast, soundBut, sound}
 use Rattle.reports.specs.Measures.{elementsOf}
-use Rattle.reports.specs.Unfinished.{Ubi, nonEmpty, question15, ubiFrom, getUbi}
+use Rattle.reports.specs.Unfinished.{nonEmpty, question15, ubiFrom, getUbi}
 use Rattle.arith.proofs.FloatOrder.{or-l, or-r}
 
 -- ---- given where question 15 says yes

@@ -10,7 +10,7 @@ use Rattle.reports.specs.declared.fractal_answers.Strength.{Strength}
 use Rattle.reports.specs.declared.fractal_answers.Strength.the-variants.{Strong, Medium, Weak}
 use Rattle.reports.specs.declared.fractal_answers.FractalAnswers.{FractalAnswers}
 use Rattle.machine.specs.Fractals.{Fractal}
-use Rattle.reports.specs.Folds.{greatest, least}
+use Rattle.named.specs.Folds.{greatest, least}
 
 -- ---- strength (power_str)
 

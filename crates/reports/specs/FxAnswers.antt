@@ -1,36 +1,16 @@
 -- What get_fx_list answers of a stand and its lent stores, and the lent output that it writes. Definitions only.
-use Prim.Native.Nat.{ℕ, _≤_}
+use Prim.Native.Nat.{ℕ}
 use mathlib.Core.Bool.{Bool, true, false, _&&_}
-use mathlib.Core.List.{List, _++_}
+use mathlib.Core.List.{List}
 use mathlib.Core.Path.{_≡_}
 use lib.ListN.{length}
 use lib.Dec.{leb}
-use Rattle.stores.specs.Stores.{RawStore, RoomRaw}
 use Rattle.machine.specs.Fractals.{Fractal}
 use Rattle.machine.specs.Stand.{State}
-use Rattle.strokes.specs.declared.Stand.{Stand}
-use Rattle.strokes.specs.Stored.{Stores, FractalStore, stateOf, storedFractals, barCounts, fractalCounts, total}
-use Rattle.strokes.specs.StrokeStore.{Fewer, fractalsOf, putFractals}
+use Rattle.strokes.specs.Lent.{FractalStore}
+use Rattle.strokes.specs.FractalRows.{putFractals}
 use Rattle.reports.specs.declared.fx_answer.FxListAnswer.{FxListAnswer}
 use Rattle.reports.specs.FractalList.{getFxList}
-use Rattle.reports.specs.FxListing.{strokeRows}
-
--- ---- all fractals that are gone through
-
--- of a stand, its unfinished bars and its rows of fractals: those of the kept strokes, then those of the unfinished bars
-unfoldable pub allRows : Stand → RawStore → FractalStore → List Fractal
-unfolding strokeRows barCounts fractalCounts storedFractals fractalsOf
-allRows s u f = strokeRows (barCounts s) (fractalCounts s) (storedFractals f) ++ fractalsOf u 0 (s .unfinished)
-
--- the columns have what the stand counts
-pub record CanGo (s : Stand) (u : RawStore) (f : FractalStore) : Type 0 where
-  pub strokes : s .strokes ≤ 65
-  pub same : length (f .prices) ≡ length (f .stamps)
-  pub small : length (f .stamps) ≤ 65536
-  pub fits : total (barCounts s) ≤ length (f .stamps)
-  pub fewer : Fewer (barCounts s) (fractalCounts s)
-  pub bars : RoomRaw u (s .unfinished)
-  pub few : s .unfinished ≤ 65536
 
 -- ---- the answer
 

@@ -1,27 +1,23 @@
 -- The inner raw bars of a kept stroke, written to lent columns: questions 4, 13 and 14, and what stands in the columns then. Definitions only.
-use Prim.Native.Nat.{ℕ, _+_, _≤_}
+use Prim.Native.Nat.{ℕ}
 use mathlib.Core.Bool.{Bool, true, false, _&&_}
 use mathlib.Core.List.{List, map}
 use mathlib.Core.Option.{Option, none, some}
-use mathlib.Core.Path.{_≡_}
-use lib.Dec.{T}
 use lib.IntN.{ℤ}
-use lib.ListN.{length, take}
+use lib.ListN.{length}
 use lib.Ieee.{Float}
 use Rattle.bars.specs.declared.Bar.{Bar}
 use Rattle.bars.specs.Bars.{rowOf}
-use Rattle.stores.specs.Stores.{RawStore, rawStore, RoomRaw, barAt, setBar, rising, placeOf}
+use Rattle.stores.specs.Stores.{RawStore, rawStore}
 use Rattle.machine.specs.Strokes.{Stroke}
 use Rattle.strokes.specs.declared.Stand.{Stand}
-use Rattle.strokes.specs.Stored.{Stores, stateOf}
-use Rattle.strokes.specs.StrokeStore.{pasted}
-use Rattle.sound.specs.SoundStand.{namedRows}
-use Rattle.sound.specs.Question4.{question4}
-use Rattle.reports.specs.declared.stroke_rows.StrokeRows.{StrokeRows}
+use Rattle.strokes.specs.StateRead.{stateOf}
+use Rattle.strokes.specs.Lent.{Stores}
+use Rattle.strokes.specs.FractalRows.{pasted}
+use Rattle.question4.specs.Question4.{question4}
 use Rattle.reports.specs.declared.asked_raw_bars.RawBarsAnswer.{RawBarsAnswer}
 use Rattle.reports.specs.Measures.{getRawBars}
-use Rattle.reports.specs.NamedStrokes.{RowsStand, innerRows}
-use Rattle.reports.specs.Reports.{nth, question14}
+use Rattle.named.specs.ReportQuestions.{nth, question14}
 
 -- ---- bars written to columns
 
@@ -29,35 +25,6 @@ use Rattle.reports.specs.Reports.{nth, question14}
 unfoldable pub putBars : RawStore → ℕ → List Bar → RawStore
 unfolding pasted rowOf
 putBars d at bs = rawStore (pasted (d .times) at (map (λ b. b .time) bs)) (pasted (d .ids) at (map (λ b. b .id) bs)) (pasted (d .prices) at (map rowOf bs))
-
--- the first n bars of a store can be looked up by their times
-pub record CanFind (s : RawStore) (n : ℕ) : Type 0 where
-  pub room : RoomRaw s n
-  pub rises : T (rising (take n (s .times)))
-
--- the one of the time t
-abbrev pub namedBar : RawStore → ℕ → ℤ → Bar
-namedBar s n t = barAt s (placeOf t (take n (s .times)))
-
--- columns that bars are written to, and the place of the next one
-pub record Filling : Type 0 where
-  pub columns : RawStore
-  pub next : ℕ
-
-abbrev pub filling : List ℤ → List ℤ → List (List Float) → ℕ → Filling
-filling ts is ps k = record { columns = rawStore ts is ps; next = k }
-
--- how they go on with the bar of the time t
-abbrev pub putNamed : RawStore → ℕ → Filling → ℤ → Filling
-putNamed s n w t = record { columns = setBar (w .columns) (w .next) (namedBar s n t); next = w .next + 1 }
-
--- what a stroke in these rows is asked for: the columns that are lent are of one length, and the elements of its inner bars name the first n raw bars
-pub record CanList (r : StrokeRows) (n : ℕ) (s : RawStore) (sc : List ℕ) (se : List (List ℤ)) : Type 0 where
-  pub find : CanFind s n
-  pub stands : RowsStand r (length sc)
-  pub small : length sc ≤ 65536
-  pub elements : length se ≡ length sc
-  pub named : T (namedRows (take n (s .times)) (innerRows r sc) (innerRows r se))
 
 -- ---- what is answered
 

@@ -7,8 +7,8 @@ use lib.Ieee.{Float, binary64, ofInt}
 use Rattle.bars.specs.declared.Bar.{Bar}
 use Rattle.bars.specs.Bars.{rowOf}
 use Rattle.stores.specs.Stores.{rawStore, barOf}
-use Rattle.strokes.specs.StrokeStore.{pasted}
-use Rattle.reports.specs.Reports.{question14}
+use Rattle.strokes.specs.FractalRows.{pasted}
+use Rattle.named.specs.ReportQuestions.{question14}
 use Rattle.reports.specs.InnerRawBars.{putBars, placesFor, listIf, listBars, listed}
 
 -- a row of six times the same price

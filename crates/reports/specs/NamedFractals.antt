@@ -7,13 +7,14 @@ use lib.IntN.{pos}
 use lib.Ieee.{fin}
 use Rattle.machine.specs.Fractals.{Fractal}
 use Rattle.strokes.specs.declared.Stand.{Stand}
-use Rattle.strokes.specs.Stored.{Stores, stateOf}
-use Rattle.sound.specs.Question4.{question4}
+use Rattle.strokes.specs.StateRead.{stateOf}
+use Rattle.strokes.specs.Lent.{Stores}
+use Rattle.question4.specs.Question4.{question4}
 use Rattle.reports.specs.declared.fractal_answers.Strength.the-variants.{Weak}
 use Rattle.reports.specs.declared.fractal_answers.FractalAnswers.{FractalAnswers}
 use Rattle.reports.specs.declared.asked_fractals.FractalAnswer.{FractalAnswer}
 use Rattle.reports.specs.FractalAnswers.{answersOf}
-use Rattle.reports.specs.Reports.{fractalAt, unfinishedAt}
+use Rattle.named.specs.ReportQuestions.{fractalAt, unfinishedAt}
 
 -- what a refusal answers
 unfoldable pub noAnswers : FractalAnswers

@@ -8,18 +8,16 @@ use lib.ListN.{length}
 use lib.IntN.{ℤ, pos}
 use lib.Ieee.{Float, binary64, ofInt}
 use Rattle.bars.specs.declared.Bar.{Bar}
-use Rattle.bars.specs.Bars.{Merged, own}
+use Rattle.bars.specs.Bars.{own}
 use Rattle.machine.specs.declared.Mark.{Mark}
 use Rattle.machine.specs.declared.Mark.the-variants.{D, G}
-use Rattle.reports.specs.declared.fractal_answers.Strength.{Strength}
 use Rattle.reports.specs.declared.fractal_answers.Strength.the-variants.{Strong, Medium, Weak}
 use Rattle.machine.specs.Fractals.{Fractal, timeOf}
-use Rattle.machine.specs.Strokes.{Stroke}
 use Rattle.machine.specs.Stand.{State}
 use Rattle.machine.specs.Calls.{calls}
 use Rattle.reports.specs.FractalAnswers.{powerStr, fractalVolume, hasZs}
 use Rattle.reports.specs.FractalList.{laterThan, getFxList, getFinishedBis, lastBiExtend}
-use Rattle.reports.specs.Reports.{strokeExists, runExists, fractalExists, unfinishedExists}
+use Rattle.named.specs.ReportQuestions.{strokeExists, runExists, fractalExists, unfinishedExists}
 use Rattle.reports.specs.Unfinished.{question15, highest, lowest, getUbi}
 
 -- a bar of this time, high, low and close; vol is its time

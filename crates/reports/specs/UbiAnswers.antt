@@ -1,35 +1,24 @@
 -- What get_ubi answers of a stand and its lent stores, and how its highest and lowest bar are found in one pass. Definitions only.
-use Prim.Native.Nat.{ℕ, _≤_}
+use Prim.Native.Nat.{ℕ}
 use mathlib.Core.Bool.{Bool, true, false}
-use mathlib.Core.List.{List, [], _∷_, foldl}
 use mathlib.Core.Option.{Option, none, some}
-use lib.ListN.{length, take}
-use lib.IntN.{ℤ, pos}
-use lib.Dec.{T}
-use lib.Ieee.{Float, fin, lt, le}
+use lib.ListN.{length}
+use lib.IntN.{pos}
+use lib.Ieee.{fin}
 use Rattle.bars.specs.declared.Bar.{Bar}
-use Rattle.bars.specs.Merging.{atTimes}
-use Rattle.stores.specs.Stores.{RawStore, SizedRaw, rising}
 use Rattle.machine.specs.declared.Mark.{Mark}
 use Rattle.machine.specs.declared.Mark.the-variants.{D}
-use Rattle.machine.specs.declared.Direction.{Direction}
 use Rattle.machine.specs.declared.Direction.the-variants.{Up}
 use Rattle.machine.specs.Stand.{State}
 use Rattle.strokes.specs.declared.Stand.{Stand}
-use Rattle.strokes.specs.Stored.{Stores, stateOf}
-use Rattle.sound.specs.Question4.{question4}
-use Rattle.reports.specs.declared.ubi.Extremes.{Extremes}
+use Rattle.strokes.specs.StateRead.{stateOf}
+use Rattle.strokes.specs.Lent.{Stores}
+use Rattle.question4.specs.Question4.{question4}
 use Rattle.reports.specs.declared.ubi.FractalBars.{FractalBars}
 use Rattle.reports.specs.declared.ubi.UbiAnswer.{UbiAnswer}
-use Rattle.reports.specs.Unfinished.{Ubi, oneOf, getUbi}
+use Rattle.reports.specs.Unfinished.{Ubi, getUbi}
 
 -- ---- one pass over the raw bars that elements name
-
--- a store of raw bars with columns of one length, of which the first n have rising times
-pub record RisingFirst (s : RawStore) (n : ℕ) : Type 0 where
-  pub sized : SizedRaw s (length (s .times))
-  pub fits : n ≤ length (s .times)
-  pub rise : T (rising (take n (s .times)))
 
 unfoldable pub noBar : Bar
 noBar =
@@ -43,26 +32,6 @@ noBar =
       vol = fin false 0 (pos 0);
       amount = fin false 0 (pos 0);
     }
-
-unfoldable pub noneSeen : Extremes
-unfolding noBar
-noneSeen = record { seen = false; high = noBar; low = noBar }
-
--- one bar more: by whether one was seen before it
-unfoldable pub seeIf : Bool → Extremes → Bar → Extremes
-unfolding oneOf lt le
-seeIf true e b =
-    record { seen = true; high = oneOf (lt (b .high) (e .high .high)) (e .high) b; low = oneOf (le (e .low .low) (b .low)) (e .low) b }
-seeIf false e b = record { seen = true; high = b; low = b }
-
-unfoldable pub see : Extremes → Bar → Extremes
-unfolding seeIf
-see e b = seeIf (e .seen) e b
-
--- the raw bar that the time t names, if one does
-unfoldable pub seeAt : List Bar → Extremes → ℤ → Extremes
-unfolding see atTimes
-seeAt raw e t = foldl see e (atTimes raw (t ∷ []))
 
 -- ---- the answer
 
@@ -84,22 +53,6 @@ noUbi failed =
       raw = 0;
       fractals = 0;
       first = threeBars D noBar noBar noBar;
-    }
-
--- of these parts; high and low are those of the two bars
-unfoldable pub ubiOf : Direction → Bar → Bar → ℕ → ℕ → ℕ → FractalBars → UbiAnswer
-ubiOf d h w bars raw fractals first =
-    record {
-      failed = 0;
-      direction = d;
-      high = h .high;
-      low = w .low;
-      highBar = h;
-      lowBar = w;
-      bars = bars;
-      raw = raw;
-      fractals = fractals;
-      first = first;
     }
 
 -- the summary, where question 15 says yes; its lists by their lengths

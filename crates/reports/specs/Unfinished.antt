@@ -8,9 +8,8 @@ use Rattle.bars.specs.Bars.{Merged}
 use Rattle.bars.specs.Lists.{last}
 use Rattle.bars.specs.Merging.{atTimes}
 use Rattle.machine.specs.declared.Direction.{Direction}
-use Rattle.machine.specs.declared.Direction.the-variants.{Up, Down}
 use Rattle.machine.specs.Fractals.{Fractal, checkFxs}
-use Rattle.machine.specs.Strokes.{Stroke, directionOf}
+use Rattle.machine.specs.Strokes.{Stroke, directionOf, turned}
 use Rattle.reports.specs.Measures.{elementsOf}
 
 unfoldable pub nonEmpty : {A : Type 0} → List A → Bool
@@ -54,11 +53,6 @@ pub record Ubi : Type 0 where
   pub raw : List Bar
   pub fractals : List Fractal
   pub first : Fractal
-
--- the other way than the last stroke
-unfoldable pub turned : Direction → Direction
-turned Up = Down
-turned Down = Up
 
 -- of the last stroke b, the highest bar h and the lowest bar w of the unfinished bars l, and their fractals, of which f is the first
 unfoldable pub ubiWith : List Bar → List Merged → Stroke → Bar → Bar → Fractal → List Fractal → Ubi

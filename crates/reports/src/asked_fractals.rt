@@ -4,19 +4,18 @@ ghost use mathlib.Core.Path.{_≡_};
 ghost use mathlib.Core.List.{[]};
 ghost use Prim.Native.Nat.{_+_, _≤_, _<_};
 ghost use lib.ListN.{length, getD};
-ghost use Rattle.stores.specs.Stores.{rawStore, mergedStore};
-ghost use Rattle.strokes.specs.Stored.{fractalStore, rowFractal};
-ghost use Rattle.sound.specs.SoundStand.{storesOf};
+ghost use Rattle.strokes.specs.StateRead.{rowFractal};
+ghost use Rattle.strokes.specs.Lent.{before};
 ghost use Rattle.reports.specs.FractalAnswers.{answersOf};
-ghost use Rattle.reports.specs.NamedStrokes.{RowsStand};
+ghost use Rattle.named.specs.Code.NamedRows.{RowsStand};
 ghost use Rattle.reports.specs.NamedFractals.{noAnswers, strokeAnswersAt, unfinishedAnswersAt};
-ghost use Rattle.reports.specs.SeekFractals.{foundOf, answerOr13};
+ghost use Rattle.reports.specs.Code.SeekFractals.{foundOf, answerOr13};
 use super::fractal_answers::FractalAnswers;
 use super::fractal_answers::Strength;
+use super::rows_shown;
 use super::seek_fractals;
 use super::seek_fractals::Sought;
-use super::stroke_rows;
-use super::stroke_rows::StrokeRows;
+use named::StrokeRows;
 use strokes::Stand;
 
 // Document 01's number of the first question that failed, 0 where none did, and the answers.
@@ -47,7 +46,7 @@ fn answers_in(rows: StrokeRows, fp: &[[f64; 18]], place: usize) -> FractalAnswer
     if n <= place {
         return refused(13);
     }
-    let answers = stroke_rows::row_answers(fp, first + place);
+    let answers = rows_shown::row_answers(fp, first + place);
     FractalAnswer { failed: 0, answers }
 }
 
@@ -73,9 +72,9 @@ pub fn stroke_fractal_answers(
     stroke: usize,
     place: usize,
 ) -> FractalAnswer
-    ensures { λ r. ⌜ r ≡ strokeAnswersAt stand (storesOf (rawStore (now (rt .entry)) (now (ri .entry)) (now (rp .entry))) (mergedStore (now (ut .entry)) (now (ui .entry)) (now (up .entry)) (now (uc .entry)) (now (ue .entry))) (mergedStore (now (st .entry)) (now (si .entry)) (now (sp .entry)) (now (sc .entry)) (now (se .entry))) (fractalStore (now (fs .entry)) (now (fp .entry)))) stroke place ⌝ }
+    ensures { λ r. ⌜ r ≡ strokeAnswersAt stand (before rt ri rp ut ui up uc ue st si sp sc se fs fp) stroke place ⌝ }
 {
-    if !sound::is_sound(
+    if !question4::is_sound(
         stand,
         rt,
         ri,
@@ -95,11 +94,11 @@ pub fn stroke_fractal_answers(
     ) {
         return refused(4);
     }
-    let kept = stroke_rows::kept(stand);
+    let kept = named::kept(stand);
     if kept <= stroke {
         return refused(13);
     }
-    let rows = stroke_rows::rows_of(stand, stroke);
+    let rows = named::rows_of(stand, stroke);
     answers_in(rows, fp, place)
 }
 
@@ -134,9 +133,9 @@ pub fn unfinished_fractal_answers(
     fp: &[[f64; 18]],
     place: usize,
 ) -> FractalAnswer
-    ensures { λ r. ⌜ r ≡ unfinishedAnswersAt stand (storesOf (rawStore (now (rt .entry)) (now (ri .entry)) (now (rp .entry))) (mergedStore (now (ut .entry)) (now (ui .entry)) (now (up .entry)) (now (uc .entry)) (now (ue .entry))) (mergedStore (now (st .entry)) (now (si .entry)) (now (sp .entry)) (now (sc .entry)) (now (se .entry))) (fractalStore (now (fs .entry)) (now (fp .entry)))) place ⌝ }
+    ensures { λ r. ⌜ r ≡ unfinishedAnswersAt stand (before rt ri rp ut ui up uc ue st si sp sc se fs fp) place ⌝ }
 {
-    if !sound::is_sound(
+    if !question4::is_sound(
         stand,
         rt,
         ri,

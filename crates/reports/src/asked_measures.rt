@@ -5,18 +5,20 @@ ghost use Prim.Native.Nat.{_≤_};
 ghost use lib.ListN.{length, take};
 ghost use lib.Dec.{T};
 ghost use Rattle.bars.specs.declared.Bar.{Bar as BarOf};
-ghost use Rattle.stores.specs.Stores.{rawStore, mergedStore, rising};
-ghost use Rattle.strokes.specs.Stored.{fractalStore};
+ghost use Rattle.stores.specs.Code.StoreRows.{rising};
+ghost use Rattle.strokes.specs.Lent.{before};
 ghost use Rattle.machine.specs.Strokes.{Stroke};
-ghost use Rattle.sound.specs.SoundStand.{namedRows, storesOf};
+ghost use Rattle.sound.specs.Code.SoundStand.{namedRows};
 ghost use Rattle.reports.specs.Measures.{measuresOf};
-ghost use Rattle.reports.specs.ElementPrices.{endOf, InColumns};
-ghost use Rattle.reports.specs.NamedStrokes.{noMeasures, cut, CanMeasure, ShownBy, measuresAt};
+ghost use Rattle.reports.specs.Code.ElementPrices.{endOf, InColumns};
+ghost use Rattle.reports.specs.NamedStrokes.{noMeasures, measuresAt};
+ghost use Rattle.reports.specs.Code.MeasuredRows.{CanMeasure, ShownBy};
+ghost use Rattle.named.specs.Code.NamedRows.{cut};
 use super::measures;
 use super::measures::Measures;
 use super::measures::StrokeEnd;
-use super::stroke_rows;
-use super::stroke_rows::StrokeRows;
+use super::rows_shown;
+use named::StrokeRows;
 use strokes::Stand;
 
 // Document 01's number of the first question that failed, 0 where none did, and the measures.
@@ -88,9 +90,9 @@ fn measures_in(
 {
     let first = rows.first;
     let bars = rows.bars;
-    let e = stroke_rows::end_row(rows);
-    let start = stroke_rows::end_at(fp, first);
-    let end = stroke_rows::end_at(fp, e);
+    let e = named::end_row(rows);
+    let start = rows_shown::end_at(fp, first);
+    let end = rows_shown::end_at(fp, e);
     let a = first + 1;
     let z = first + bars - 1;
     part_measures(rt, rp, n, sp, sc, se, a, z, bars, start, end)
@@ -116,9 +118,9 @@ pub fn measures_at(
     fp: &[[f64; 18]],
     place: usize,
 ) -> MeasuresAnswer
-    ensures { λ r. ⌜ r ≡ measuresAt stand (storesOf (rawStore (now (rt .entry)) (now (ri .entry)) (now (rp .entry))) (mergedStore (now (ut .entry)) (now (ui .entry)) (now (up .entry)) (now (uc .entry)) (now (ue .entry))) (mergedStore (now (st .entry)) (now (si .entry)) (now (sp .entry)) (now (sc .entry)) (now (se .entry))) (fractalStore (now (fs .entry)) (now (fp .entry)))) place ⌝ }
+    ensures { λ r. ⌜ r ≡ measuresAt stand (before rt ri rp ut ui up uc ue st si sp sc se fs fp) place ⌝ }
 {
-    if !sound::is_sound(
+    if !question4::is_sound(
         stand,
         rt,
         ri,
@@ -138,12 +140,12 @@ pub fn measures_at(
     ) {
         return refused(4);
     }
-    let kept = stroke_rows::kept(stand);
+    let kept = named::kept(stand);
     if kept <= place {
         return refused(13);
     }
     let n = stand.raw;
-    let rows = stroke_rows::rows_of(stand, place);
+    let rows = named::rows_of(stand, place);
     let measures = measures_in(rows, rt, rp, n, sp, sc, se, fp);
     MeasuresAnswer {
         failed: 0,

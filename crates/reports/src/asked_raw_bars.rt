@@ -6,15 +6,16 @@ ghost use lib.ListN.{length, take, getD};
 ghost use lib.IntN.{pos};
 ghost use lib.Dec.{T};
 ghost use Rattle.bars.specs.Lists.{every};
-ghost use Rattle.stores.specs.Stores.{rawStore, mergedStore, RoomRaw, setBar};
-ghost use Rattle.strokes.specs.Stored.{fractalStore};
-ghost use Rattle.sound.specs.SoundStand.{isTime, namedRows, storesOf};
-ghost use Rattle.reports.specs.ElementPrices.{elementsIn};
-ghost use Rattle.reports.specs.NamedStrokes.{innerRows};
-ghost use Rattle.reports.specs.InnerRawBars.{putBars, CanFind, namedBar, filling, putNamed, CanList, listed, refusedBy, listBars, rawBarsAt};
+ghost use Rattle.stores.specs.Code.StoreRows.{RoomRaw, setBar};
+ghost use Rattle.strokes.specs.Lent.{before};
+ghost use Rattle.sound.specs.Code.SoundStand.{isTime, namedRows};
+ghost use Rattle.reports.specs.Code.ElementPrices.{elementsIn};
+ghost use Rattle.named.specs.Code.NamedRows.{innerRows};
+ghost use Rattle.reports.specs.InnerRawBars.{putBars, listed, refusedBy, listBars, rawBarsAt};
+ghost use Rattle.reports.specs.Code.InnerRawSteps.{CanFind, namedBar, filling, putNamed, CanList};
+ghost use Rattle.stores.specs.Lent.{rawHeld, rawBefore, rawAfter};
 use super::measures;
-use super::stroke_rows;
-use super::stroke_rows::StrokeRows;
+use named::StrokeRows;
 use strokes::Stand;
 
 // Document 01's number of the first question that failed, 0 where none did, and how many bars were written.
@@ -67,8 +68,8 @@ fn put_named(
     op: &mut [[f64; 6]],
     at: usize,
 )
-    requires { ⌜ CanFind (rawStore (now rt) (now ri) (now rp)) n ⌝ ∗ ⌜ j < length (now row) ⌝ ∗ ⌜ T (isTime (take n (now rt)) (getD (now row) j (pos 0))) ⌝ ∗ ⌜ RoomRaw (rawStore (now ot) (now oi) (now op)) (at + 1) ⌝ }
-    ensures { λ _. ⌜ rawStore (now (ot .exit)) (now (oi .exit)) (now (op .exit)) ≡ setBar (rawStore (now (ot .entry)) (now (oi .entry)) (now (op .entry))) at (namedBar (rawStore (now (rt .entry)) (now (ri .entry)) (now (rp .entry))) n (getD (now (row .entry)) j (pos 0))) ⌝ }
+    requires { ⌜ CanFind (rawHeld rt ri rp) n ⌝ ∗ ⌜ j < length (now row) ⌝ ∗ ⌜ T (isTime (take n (now rt)) (getD (now row) j (pos 0))) ⌝ ∗ ⌜ RoomRaw (rawHeld ot oi op) (at + 1) ⌝ }
+    ensures { λ _. ⌜ rawAfter ot oi op ≡ setBar (rawBefore ot oi op) at (namedBar (rawBefore rt ri rp) n (getD (now (row .entry)) j (pos 0))) ⌝ }
 {
     let t = row[j];
     let i = stores::find_time(rt, n, t);
@@ -89,8 +90,8 @@ fn put_row(
     op: &mut [[f64; 6]],
     at: usize,
 ) -> usize
-    requires { ⌜ CanFind (rawStore (now rt) (now ri) (now rp)) n ⌝ ∗ ⌜ T (every (isTime (take n (now rt))) (take count (now row))) ⌝ ∗ ⌜ RoomRaw (rawStore (now ot) (now oi) (now op)) (at + length (take count (now row))) ⌝ }
-    ensures { λ r. ⌜ filling (now (ot .exit)) (now (oi .exit)) (now (op .exit)) r ≡ foldl (putNamed (rawStore (now (rt .entry)) (now (ri .entry)) (now (rp .entry))) n) (filling (now (ot .entry)) (now (oi .entry)) (now (op .entry)) at) (take count (now (row .entry))) ⌝ }
+    requires { ⌜ CanFind (rawHeld rt ri rp) n ⌝ ∗ ⌜ T (every (isTime (take n (now rt))) (take count (now row))) ⌝ ∗ ⌜ RoomRaw (rawHeld ot oi op) (at + length (take count (now row))) ⌝ }
+    ensures { λ r. ⌜ filling (now (ot .exit)) (now (oi .exit)) (now (op .exit)) r ≡ foldl (putNamed (rawBefore rt ri rp) n) (filling (now (ot .entry)) (now (oi .entry)) (now (op .entry)) at) (take count (now (row .entry))) ⌝ }
 {
     let m = measures::shorter(count, row.len());
     let mut k = at;
@@ -115,8 +116,8 @@ fn put_rows(
     oi: &mut [i32],
     op: &mut [[f64; 6]],
 )
-    requires { ⌜ CanFind (rawStore (now rt) (now ri) (now rp)) n ⌝ ∗ ⌜ length (now cs) ≡ length (now es) ⌝ ∗ ⌜ T (namedRows (take n (now rt)) (now cs) (now es)) ⌝ ∗ ⌜ RoomRaw (rawStore (now ot) (now oi) (now op)) (length (elementsIn (now cs) (now es))) ⌝ }
-    ensures { λ _. ⌜ rawStore (now (ot .exit)) (now (oi .exit)) (now (op .exit)) ≡ putBars (rawStore (now (ot .entry)) (now (oi .entry)) (now (op .entry))) 0 (map (namedBar (rawStore (now (rt .entry)) (now (ri .entry)) (now (rp .entry))) n) (elementsIn (now (cs .entry)) (now (es .entry)))) ⌝ }
+    requires { ⌜ CanFind (rawHeld rt ri rp) n ⌝ ∗ ⌜ length (now cs) ≡ length (now es) ⌝ ∗ ⌜ T (namedRows (take n (now rt)) (now cs) (now es)) ⌝ ∗ ⌜ RoomRaw (rawHeld ot oi op) (length (elementsIn (now cs) (now es))) ⌝ }
+    ensures { λ _. ⌜ rawAfter ot oi op ≡ putBars (rawBefore ot oi op) 0 (map (namedBar (rawBefore rt ri rp) n) (elementsIn (now (cs .entry)) (now (es .entry)))) ⌝ }
 {
     let mut k: usize = 0;
     let mut i: usize = 0;
@@ -138,8 +139,8 @@ fn list_rows(
     oi: &mut [i32],
     op: &mut [[f64; 6]],
 ) -> RawBarsAnswer
-    requires { ⌜ CanFind (rawStore (now rt) (now ri) (now rp)) n ⌝ ∗ ⌜ (length (now cs) ≡ length (now es)) × (length (now cs) ≤ 65536) ⌝ ∗ ⌜ T (namedRows (take n (now rt)) (now cs) (now es)) ⌝ }
-    ensures { λ r. ⌜ listed r (now (ot .exit)) (now (oi .exit)) (now (op .exit)) ≡ listBars (map (namedBar (rawStore (now (rt .entry)) (now (ri .entry)) (now (rp .entry))) n) (elementsIn (now (cs .entry)) (now (es .entry)))) (rawStore (now (ot .entry)) (now (oi .entry)) (now (op .entry))) ⌝ }
+    requires { ⌜ CanFind (rawHeld rt ri rp) n ⌝ ∗ ⌜ (length (now cs) ≡ length (now es)) × (length (now cs) ≤ 65536) ⌝ ∗ ⌜ T (namedRows (take n (now rt)) (now cs) (now es)) ⌝ }
+    ensures { λ r. ⌜ listed r (now (ot .exit)) (now (oi .exit)) (now (op .exit)) ≡ listBars (map (namedBar (rawBefore rt ri rp) n) (elementsIn (now (cs .entry)) (now (es .entry)))) (rawBefore ot oi op) ⌝ }
 {
     let m = count_elements(cs, es);
     if ot.len() < m {
@@ -171,8 +172,8 @@ fn bars_in(
     oi: &mut [i32],
     op: &mut [[f64; 6]],
 ) -> RawBarsAnswer
-    requires { ⌜ CanList rows n (rawStore (now rt) (now ri) (now rp)) (now sc) (now se) ⌝ }
-    ensures { λ r. ⌜ listed r (now (ot .exit)) (now (oi .exit)) (now (op .exit)) ≡ listBars (map (namedBar (rawStore (now (rt .entry)) (now (ri .entry)) (now (rp .entry))) n) (elementsIn (innerRows rows (now (sc .entry))) (innerRows rows (now (se .entry))))) (rawStore (now (ot .entry)) (now (oi .entry)) (now (op .entry))) ⌝ }
+    requires { ⌜ CanList rows n (rawHeld rt ri rp) (now sc) (now se) ⌝ }
+    ensures { λ r. ⌜ listed r (now (ot .exit)) (now (oi .exit)) (now (op .exit)) ≡ listBars (map (namedBar (rawBefore rt ri rp) n) (elementsIn (innerRows rows (now (sc .entry))) (innerRows rows (now (se .entry))))) (rawBefore ot oi op) ⌝ }
 {
     let first = rows.first;
     let bars = rows.bars;
@@ -205,9 +206,9 @@ pub fn raw_bars(
     oi: &mut [i32],
     op: &mut [[f64; 6]],
 ) -> RawBarsAnswer
-    ensures { λ r. ⌜ listed r (now (ot .exit)) (now (oi .exit)) (now (op .exit)) ≡ rawBarsAt stand (storesOf (rawStore (now (rt .entry)) (now (ri .entry)) (now (rp .entry))) (mergedStore (now (ut .entry)) (now (ui .entry)) (now (up .entry)) (now (uc .entry)) (now (ue .entry))) (mergedStore (now (st .entry)) (now (si .entry)) (now (sp .entry)) (now (sc .entry)) (now (se .entry))) (fractalStore (now (fs .entry)) (now (fp .entry)))) place (rawStore (now (ot .entry)) (now (oi .entry)) (now (op .entry))) ⌝ }
+    ensures { λ r. ⌜ listed r (now (ot .exit)) (now (oi .exit)) (now (op .exit)) ≡ rawBarsAt stand (before rt ri rp ut ui up uc ue st si sp sc se fs fp) place (rawBefore ot oi op) ⌝ }
 {
-    if !sound::is_sound(
+    if !question4::is_sound(
         stand,
         rt,
         ri,
@@ -227,11 +228,11 @@ pub fn raw_bars(
     ) {
         return refused(4);
     }
-    let kept = stroke_rows::kept(stand);
+    let kept = named::kept(stand);
     if kept <= place {
         return refused(13);
     }
     let n = stand.raw;
-    let rows = stroke_rows::rows_of(stand, place);
+    let rows = named::rows_of(stand, place);
     bars_in(rows, rt, ri, rp, n, sc, se, ot, oi, op)
 }

@@ -5,15 +5,16 @@ ghost use mathlib.Core.List.{map};
 ghost use Prim.Native.Nat.{_≤_};
 ghost use lib.ListN.{length, take, getD};
 ghost use lib.Ieee.{nan};
-ghost use Rattle.stores.specs.Stores.{rawStore, mergedStore};
-ghost use Rattle.strokes.specs.Stored.{fractalStore, stateOf};
-ghost use Rattle.sound.specs.SoundStand.{storesOf};
-ghost use Rattle.sound.specs.Question4.{IsSound};
-ghost use Rattle.reports.specs.Folds.{greatest, least};
+ghost use Rattle.strokes.specs.StateRead.{stateOf};
+ghost use Rattle.strokes.specs.Lent.{held, before};
+ghost use Rattle.sound.specs.StandSound.{IsSound};
+ghost use Rattle.named.specs.Folds.{greatest, least};
 ghost use Rattle.reports.specs.FractalList.{getFinishedBis, lastBiExtend};
-ghost use Rattle.reports.specs.Reports.{runOf};
-ghost use Rattle.reports.specs.ListAnswers.{finishedCount, finishedAnswer, reaches, extendAnswer};
+ghost use Rattle.named.specs.ReportQuestions.{runOf};
+ghost use Rattle.reports.specs.ListAnswers.{finishedAnswer, extendAnswer};
+ghost use Rattle.reports.specs.Code.ListSteps.{finishedCount, reaches};
 use machine::Direction;
+use named::kept;
 use strokes::Stand;
 
 // How many of the kept strokes are finished: they are the first so many. Beside a refusal's number it is 0.
@@ -26,13 +27,6 @@ pub struct FinishedBis {
 pub struct LastBiExtend {
     pub failed: u64,
     pub extends: bool,
-}
-
-// How many strokes are kept. The contract adds what holds of every stand: its two lists of counts have 65 places.
-pub fn kept_strokes(stand: Stand) -> usize
-    ensures { λ r. ⌜ (r ≡ stand .strokes) × (length (stand .bars) ≡ 65) × (length (stand .fractals) ≡ 65) ⌝ }
-{
-    stand.strokes
 }
 
 // ---- get_finished_bis
@@ -111,10 +105,10 @@ fn last_extends(
     fs: &[[i64; 6]],
     fp: &[[f64; 18]],
 ) -> bool
-    requires { ⌜ IsSound stand (storesOf (rawStore (now rt) (now ri) (now rp)) (mergedStore (now ut) (now ui) (now up) (now uc) (now ue)) (mergedStore (now st) (now si) (now sp) (now sc) (now se)) (fractalStore (now fs) (now fp))) ⌝ }
-    ensures { λ r. ⌜ r ≡ lastBiExtend ((stateOf stand (storesOf (rawStore (now (rt .entry)) (now (ri .entry)) (now (rp .entry))) (mergedStore (now (ut .entry)) (now (ui .entry)) (now (up .entry)) (now (uc .entry)) (now (ue .entry))) (mergedStore (now (st .entry)) (now (si .entry)) (now (sp .entry)) (now (sc .entry)) (now (se .entry))) (fractalStore (now (fs .entry)) (now (fp .entry))))) .strokes) ((stateOf stand (storesOf (rawStore (now (rt .entry)) (now (ri .entry)) (now (rp .entry))) (mergedStore (now (ut .entry)) (now (ui .entry)) (now (up .entry)) (now (uc .entry)) (now (ue .entry))) (mergedStore (now (st .entry)) (now (si .entry)) (now (sp .entry)) (now (sc .entry)) (now (se .entry))) (fractalStore (now (fs .entry)) (now (fp .entry))))) .unfinished) ⌝ }
+    requires { ⌜ IsSound stand (held rt ri rp ut ui up uc ue st si sp sc se fs fp) ⌝ }
+    ensures { λ r. ⌜ r ≡ lastBiExtend ((stateOf stand (before rt ri rp ut ui up uc ue st si sp sc se fs fp)) .strokes) ((stateOf stand (before rt ri rp ut ui up uc ue st si sp sc se fs fp)) .unfinished) ⌝ }
 {
-    let k = kept_strokes(stand);
+    let k = kept(stand);
     let n = stand.unfinished;
     if k == 0 {
         return false;
@@ -149,11 +143,12 @@ pub fn get_finished_bis(
     fs: &[[i64; 6]],
     fp: &[[f64; 18]],
 ) -> FinishedBis
-    ensures { λ r. ⌜ (r ≡ finishedAnswer stand (storesOf (rawStore (now (rt .entry)) (now (ri .entry)) (now (rp .entry))) (mergedStore (now (ut .entry)) (now (ui .entry)) (now (up .entry)) (now (uc .entry)) (now (ue .entry))) (mergedStore (now (st .entry)) (now (si .entry)) (now (sp .entry)) (now (sc .entry)) (now (se .entry))) (fractalStore (now (fs .entry)) (now (fp .entry))))) × (r .failed ≡ 0 → runOf ((stateOf stand (storesOf (rawStore (now (rt .entry)) (now (ri .entry)) (now (rp .entry))) (mergedStore (now (ut .entry)) (now (ui .entry)) (now (up .entry)) (now (uc .entry)) (now (ue .entry))) (mergedStore (now (st .entry)) (now (si .entry)) (now (sp .entry)) (now (sc .entry)) (now (se .entry))) (fractalStore (now (fs .entry)) (now (fp .entry))))) .strokes) 0 (r .count) ≡ getFinishedBis ((stateOf stand (storesOf (rawStore (now (rt .entry)) (now (ri .entry)) (now (rp .entry))) (mergedStore (now (ut .entry)) (now (ui .entry)) (now (up .entry)) (now (uc .entry)) (now (ue .entry))) (mergedStore (now (st .entry)) (now (si .entry)) (now (sp .entry)) (now (sc .entry)) (now (se .entry))) (fractalStore (now (fs .entry)) (now (fp .entry))))) .strokes) ((stateOf stand (storesOf (rawStore (now (rt .entry)) (now (ri .entry)) (now (rp .entry))) (mergedStore (now (ut .entry)) (now (ui .entry)) (now (up .entry)) (now (uc .entry)) (now (ue .entry))) (mergedStore (now (st .entry)) (now (si .entry)) (now (sp .entry)) (now (sc .entry)) (now (se .entry))) (fractalStore (now (fs .entry)) (now (fp .entry))))) .unfinished)) ⌝ }
+    ensures { λ r. ⌜ r ≡ finishedAnswer stand (before rt ri rp ut ui up uc ue st si sp sc se fs fp) ⌝ }
+    ensures { λ r. ⌜ (r .failed ≡ 0 → runOf ((stateOf stand (before rt ri rp ut ui up uc ue st si sp sc se fs fp)) .strokes) 0 (r .count) ≡ getFinishedBis ((stateOf stand (before rt ri rp ut ui up uc ue st si sp sc se fs fp)) .strokes) ((stateOf stand (before rt ri rp ut ui up uc ue st si sp sc se fs fp)) .unfinished)) ⌝ }
 {
-    let k = kept_strokes(stand);
+    let k = kept(stand);
     let n = stand.unfinished;
-    if !sound::is_sound(
+    if !question4::is_sound(
         stand,
         rt,
         ri,
@@ -198,9 +193,9 @@ pub fn last_bi_extend(
     fs: &[[i64; 6]],
     fp: &[[f64; 18]],
 ) -> LastBiExtend
-    ensures { λ r. ⌜ r ≡ extendAnswer stand (storesOf (rawStore (now (rt .entry)) (now (ri .entry)) (now (rp .entry))) (mergedStore (now (ut .entry)) (now (ui .entry)) (now (up .entry)) (now (uc .entry)) (now (ue .entry))) (mergedStore (now (st .entry)) (now (si .entry)) (now (sp .entry)) (now (sc .entry)) (now (se .entry))) (fractalStore (now (fs .entry)) (now (fp .entry)))) ⌝ }
+    ensures { λ r. ⌜ r ≡ extendAnswer stand (before rt ri rp ut ui up uc ue st si sp sc se fs fp) ⌝ }
 {
-    if !sound::is_sound(
+    if !question4::is_sound(
         stand,
         rt,
         ri,

@@ -4,17 +4,18 @@
 ghost use mathlib.Core.Path.{_≡_};
 ghost use mathlib.Core.Bool.{true};
 ghost use mathlib.Core.Option.{none};
-ghost use Rattle.stores.specs.Stores.{rawStore, mergedStore};
-ghost use Rattle.strokes.specs.Stored.{fractalStore, stateOf};
-ghost use Rattle.sound.specs.SoundStand.{storesOf};
-ghost use Rattle.sound.specs.Question4.{question4};
+ghost use Rattle.strokes.specs.StateRead.{stateOf};
+ghost use Rattle.strokes.specs.Lent.{fractalsHeld, fractalsBefore, fractalsAfter, before};
+ghost use Rattle.question4.specs.Question4.{question4};
 ghost use Rattle.reports.specs.FractalList.{laterThan};
-ghost use Rattle.reports.specs.FxListing.{listing, stepAll, CanList};
-ghost use Rattle.reports.specs.FxAnswers.{allRows, CanGo, FxDone, fxListOf};
-use super::finished::kept_strokes;
+ghost use Rattle.reports.specs.Code.FxListing.{listing, stepAll, CanList};
+ghost use Rattle.reports.specs.FxAnswers.{FxDone, fxListOf};
+ghost use Rattle.reports.specs.Code.FxRows.{allRows, CanGo};
+ghost use Rattle.stores.specs.Lent.{rawHeld, rawBefore};
 use super::fx_list::Listed;
 use super::fx_list::step_strokes;
 use super::fx_windows::step_windows;
+use named::kept;
 use strokes::Stand;
 
 // How many fractals are listed. Beside a refusal's number it is 0.
@@ -38,8 +39,8 @@ fn step_all(
     fs: &[[i64; 6]],
     fp: &[[f64; 18]],
 ) -> Listed
-    requires { ⌜ CanGo stand (rawStore (now ut) (now ui) (now up)) (fractalStore (now fs) (now fp)) ⌝ ∗ ⌜ CanList write (listing (now os) (now op) s) (allRows stand (rawStore (now ut) (now ui) (now up)) (fractalStore (now fs) (now fp))) ⌝ }
-    ensures { λ r. ⌜ listing (now (os .exit)) (now (op .exit)) r ≡ stepAll write (listing (now (os .entry)) (now (op .entry)) s) (allRows stand (rawStore (now (ut .entry)) (now (ui .entry)) (now (up .entry))) (fractalStore (now (fs .entry)) (now (fp .entry)))) ⌝ }
+    requires { ⌜ CanGo stand (rawHeld ut ui up) (fractalsHeld fs fp) ⌝ ∗ ⌜ CanList write (listing (now os) (now op) s) (allRows stand (rawHeld ut ui up) (fractalsHeld fs fp)) ⌝ }
+    ensures { λ r. ⌜ listing (now (os .exit)) (now (op .exit)) r ≡ stepAll write (listing (now (os .entry)) (now (op .entry)) s) (allRows stand (rawBefore ut ui up) (fractalsBefore fs fp)) ⌝ }
 {
     let k = stand.strokes;
     let n = stand.unfinished;
@@ -60,8 +61,8 @@ fn list_all(
     fs: &[[i64; 6]],
     fp: &[[f64; 18]],
 ) -> FxListAnswer
-    requires { ⌜ CanGo stand (rawStore (now ut) (now ui) (now up)) (fractalStore (now fs) (now fp)) ⌝ }
-    ensures { λ r. ⌜ FxDone true (laterThan none (allRows stand (rawStore (now (ut .entry)) (now (ui .entry)) (now (up .entry))) (fractalStore (now (fs .entry)) (now (fp .entry))))) (fractalStore (now (os .entry)) (now (op .entry))) (fractalStore (now (os .exit)) (now (op .exit))) r ⌝ }
+    requires { ⌜ CanGo stand (rawHeld ut ui up) (fractalsHeld fs fp) ⌝ }
+    ensures { λ r. ⌜ FxDone true (laterThan none (allRows stand (rawBefore ut ui up) (fractalsBefore fs fp))) (fractalsBefore os op) (fractalsAfter os op) r ⌝ }
 {
     let s = Listed { count: 0, time: 0 };
     let a = step_all(os, op, false, s, stand, ut, ui, up, fs, fp);
@@ -105,11 +106,11 @@ pub fn get_fx_list(
     os: &mut [[i64; 6]],
     op: &mut [[f64; 18]],
 ) -> FxListAnswer
-    ensures { λ r. ⌜ FxDone (question4 stand (storesOf (rawStore (now (rt .entry)) (now (ri .entry)) (now (rp .entry))) (mergedStore (now (ut .entry)) (now (ui .entry)) (now (up .entry)) (now (uc .entry)) (now (ue .entry))) (mergedStore (now (st .entry)) (now (si .entry)) (now (sp .entry)) (now (sc .entry)) (now (se .entry))) (fractalStore (now (fs .entry)) (now (fp .entry))))) (fxListOf (stateOf stand (storesOf (rawStore (now (rt .entry)) (now (ri .entry)) (now (rp .entry))) (mergedStore (now (ut .entry)) (now (ui .entry)) (now (up .entry)) (now (uc .entry)) (now (ue .entry))) (mergedStore (now (st .entry)) (now (si .entry)) (now (sp .entry)) (now (sc .entry)) (now (se .entry))) (fractalStore (now (fs .entry)) (now (fp .entry)))))) (fractalStore (now (os .entry)) (now (op .entry))) (fractalStore (now (os .exit)) (now (op .exit))) r ⌝ }
+    ensures { λ r. ⌜ FxDone (question4 stand (before rt ri rp ut ui up uc ue st si sp sc se fs fp)) (fxListOf (stateOf stand (before rt ri rp ut ui up uc ue st si sp sc se fs fp))) (fractalsBefore os op) (fractalsAfter os op) r ⌝ }
 {
     // Its contract says how long the stand's lists of counts are.
-    let k = kept_strokes(stand);
-    if !sound::is_sound(
+    let k = kept(stand);
+    if !question4::is_sound(
         stand,
         rt,
         ri,

@@ -6,10 +6,12 @@ ghost use mathlib.Core.List.{_∷_, []};
 ghost use Prim.Native.Nat.{_+_, _≤_, _<_};
 ghost use lib.ListN.{length, take, drop};
 ghost use lib.IntN.{pos};
-ghost use Rattle.strokes.specs.Stored.{fractalStore, storedFractals, total};
-ghost use Rattle.strokes.specs.StrokeStore.{RoomFractals, stampsOf, pricesOf, Fewer};
+ghost use Rattle.strokes.specs.StateRead.{storedFractals, total};
+ghost use Rattle.strokes.specs.Lent.{fractalsHeld, fractalsBefore};
+ghost use Rattle.strokes.specs.Code.StrokeSteps.{RoomFractals, Fewer};
+ghost use Rattle.strokes.specs.FractalRows.{stampsOf, pricesOf};
 ghost use Rattle.reports.specs.FractalList.{isAfter};
-ghost use Rattle.reports.specs.FxListing.{timeListed, listing, stepRow, stepAll, CanList, strokeRows};
+ghost use Rattle.reports.specs.Code.FxListing.{timeListed, listing, stepRow, stepAll, CanList, strokeRows};
 use bars::Bar;
 
 // How many fractals are listed, and the time of the last one.
@@ -40,7 +42,7 @@ pub fn step_row(
     t: [i64; 6],
     p: [f64; 18],
 ) -> Listed
-    requires { ⌜ (write ≡ true → RoomFractals (fractalStore (now os) (now op)) ((stepRow write (listing (now os) (now op) s) t p) .listed .count)) ⌝ ∗ ⌜ s .count < 4294967296 ⌝ }
+    requires { ⌜ (write ≡ true → RoomFractals (fractalsHeld os op) ((stepRow write (listing (now os) (now op) s) t p) .listed .count)) ⌝ ∗ ⌜ s .count < 4294967296 ⌝ }
     ensures { λ r. ⌜ (listing (now (os .exit)) (now (op .exit)) r ≡ stepRow write (listing (now (os .entry)) (now (op .entry)) s) t p) × (length t ≡ 6) × (length p ≡ 18) ⌝ }
 {
     let n = s.count;
@@ -120,8 +122,8 @@ fn step_stroke(
     at: usize,
     m: usize,
 ) -> Listed
-    requires { ⌜ (at + m ≤ length (now fs)) × (length (now fp) ≡ length (now fs)) ⌝ ∗ ⌜ CanList write (listing (now os) (now op) s) (drop 1 (take m (drop at (storedFractals (fractalStore (now fs) (now fp)))))) ⌝ }
-    ensures { λ r. ⌜ listing (now (os .exit)) (now (op .exit)) r ≡ stepAll write (listing (now (os .entry)) (now (op .entry)) s) (drop 1 (take m (drop at (storedFractals (fractalStore (now (fs .entry)) (now (fp .entry))))))) ⌝ }
+    requires { ⌜ (at + m ≤ length (now fs)) × (length (now fp) ≡ length (now fs)) ⌝ ∗ ⌜ CanList write (listing (now os) (now op) s) (drop 1 (take m (drop at (storedFractals (fractalsHeld fs fp))))) ⌝ }
+    ensures { λ r. ⌜ listing (now (os .exit)) (now (op .exit)) r ≡ stepAll write (listing (now (os .entry)) (now (op .entry)) s) (drop 1 (take m (drop at (storedFractals (fractalsBefore fs fp))))) ⌝ }
 {
     let mut r = s;
     let mut j: usize = 1;
@@ -146,8 +148,8 @@ pub fn step_strokes(
     fractals: [usize; 65],
     k: usize,
 ) -> Listed
-    requires { ⌜ (k ≤ 65) × (length (now fp) ≡ length (now fs)) × (length (now fs) ≤ 65536) × (total (take k bars) ≤ length (now fs)) ⌝ ∗ ⌜ Fewer (take k bars) (take k fractals) ⌝ ∗ ⌜ CanList write (listing (now os) (now op) s) (strokeRows (take k bars) (take k fractals) (storedFractals (fractalStore (now fs) (now fp)))) ⌝ }
-    ensures { λ r. ⌜ listing (now (os .exit)) (now (op .exit)) r ≡ stepAll write (listing (now (os .entry)) (now (op .entry)) s) (strokeRows (take k bars) (take k fractals) (storedFractals (fractalStore (now (fs .entry)) (now (fp .entry))))) ⌝ }
+    requires { ⌜ (k ≤ 65) × (length (now fp) ≡ length (now fs)) × (length (now fs) ≤ 65536) × (total (take k bars) ≤ length (now fs)) ⌝ ∗ ⌜ Fewer (take k bars) (take k fractals) ⌝ ∗ ⌜ CanList write (listing (now os) (now op) s) (strokeRows (take k bars) (take k fractals) (storedFractals (fractalsHeld fs fp))) ⌝ }
+    ensures { λ r. ⌜ listing (now (os .exit)) (now (op .exit)) r ≡ stepAll write (listing (now (os .entry)) (now (op .entry)) s) (strokeRows (take k bars) (take k fractals) (storedFractals (fractalsBefore fs fp))) ⌝ }
 {
     let mut r = s;
     let mut at: usize = 0;

@@ -1,12 +1,13 @@
 // The fractals of the unfinished bars, window by window, as get_fx_list goes through them after those of the strokes.
 ghost use mathlib.Core.Path.{_≡_};
 ghost use Prim.Native.Nat.{_≤_};
-ghost use Rattle.stores.specs.Stores.{rawStore, RoomRaw};
+ghost use Rattle.stores.specs.Code.StoreRows.{RoomRaw};
 ghost use Rattle.machine.specs.Fractals.{taken};
-ghost use Rattle.check_bi.specs.Scan.{candleOf};
-ghost use Rattle.strokes.specs.StrokeStore.{plainBar, fractalsOf};
-ghost use Rattle.reports.specs.FxListing.{listing, stepAll, CanList};
-ghost use Rattle.reports.specs.FxTurns.{markOf, turnIf, turn, foundIf};
+ghost use Rattle.check_bi.specs.Code.Scan.{candleOf};
+ghost use Rattle.strokes.specs.Code.StrokeSteps.{plainBar, fractalsBetween};
+ghost use Rattle.reports.specs.Code.FxListing.{listing, stepAll, CanList};
+ghost use Rattle.reports.specs.Code.FxTurns.{markOf, turnIf, turn, foundIf};
+ghost use Rattle.stores.specs.Lent.{rawHeld, rawBefore};
 use super::fx_list::Listed;
 use super::fx_list::prices_of;
 use super::fx_list::stamps_of;
@@ -125,8 +126,8 @@ pub fn step_windows(
     up: &[[f64; 6]],
     end: usize,
 ) -> Listed
-    requires { ⌜ RoomRaw (rawStore (now ut) (now ui) (now up)) end ⌝ ∗ ⌜ end ≤ 65536 ⌝ ∗ ⌜ CanList write (listing (now os) (now op) s) (fractalsOf (rawStore (now ut) (now ui) (now up)) 0 end) ⌝ }
-    ensures { λ r. ⌜ listing (now (os .exit)) (now (op .exit)) r ≡ stepAll write (listing (now (os .entry)) (now (op .entry)) s) (fractalsOf (rawStore (now (ut .entry)) (now (ui .entry)) (now (up .entry))) 0 end) ⌝ }
+    requires { ⌜ RoomRaw (rawHeld ut ui up) end ⌝ ∗ ⌜ end ≤ 65536 ⌝ ∗ ⌜ CanList write (listing (now os) (now op) s) (fractalsBetween (rawHeld ut ui up) 0 end) ⌝ }
+    ensures { λ r. ⌜ listing (now (os .exit)) (now (op .exit)) r ≡ stepAll write (listing (now (os .entry)) (now (op .entry)) s) (fractalsBetween (rawBefore ut ui up) 0 end) ⌝ }
 {
     let last = Mark::D;
     let mut w = Window {

@@ -7,8 +7,8 @@ mod fx_answer;
 mod fx_list;
 mod fx_windows;
 mod measures;
+mod rows_shown;
 mod seek_fractals;
-mod stroke_rows;
 
 pub use asked_fractals::FractalAnswer;
 pub use asked_fractals::stroke_fractal_answers;

@@ -6,16 +6,16 @@ ghost use lib.ListN.{length, take, getD};
 ghost use lib.IntN.{pos};
 ghost use lib.Dec.{T};
 ghost use lib.Ieee.{nan, fits, binary64};
-ghost use Rattle.arith.specs.Sums.{meanStart, meanMore, fitStart, fitMore, snrStart, snrMore};
+ghost use Rattle.arith.specs.Code.Accumulators.{meanStart, meanMore, fitStart, fitMore, snrStart, snrMore};
 ghost use Rattle.bars.specs.Bars.{Merged};
 ghost use Rattle.bars.specs.Lists.{every};
-ghost use Rattle.stores.specs.Stores.{rising};
-ghost use Rattle.sound.specs.SoundStand.{isTime, namedRows};
+ghost use Rattle.stores.specs.Code.StoreRows.{rising};
+ghost use Rattle.sound.specs.Code.SoundStand.{isTime, namedRows};
 ghost use Rattle.machine.specs.Fractals.{Fractal, fxOf};
 ghost use Rattle.machine.specs.Strokes.{Stroke};
 ghost use Rattle.machine.specs.Break.{highOf, lowOf};
-ghost use Rattle.reports.specs.Measures.{powerPrice, volumeOf, change as changeOf, closesOf, opensAndCloses, snr as snrOf, powerSnr, slope as slopeOf, acceleration as accelerationOf, measuresOf};
-ghost use Rattle.reports.specs.ElementPrices.{elementsIn, pricesAt, closeAt, openCloseAt, fitsAt, meanAt, fitAt, snrAt, slopeAt, endOf, InColumns};
+ghost use Rattle.reports.specs.Measures.{powerPrice, volumeOf, change as changeOf, snr as snrOf, powerSnr, slope as slopeOf, acceleration as accelerationOf, measuresOf};
+ghost use Rattle.reports.specs.Code.ElementPrices.{elementsIn, pricesAt, slopeAt, endOf, InColumns, SumsOver, closesRead, pairsRead};
 ghost use Rattle.bars.specs.declared.Bar.{Bar as BarOf};
 use arith::FitSums;
 use arith::MeanSums;
@@ -173,7 +173,7 @@ impl InnerSums {
     // The raw bars that the first `count` elements of a row name.
     fn row(self, rt: &[i64], rp: &[[f64; 6]], row: &[i64], count: usize) -> Self
         requires { ⌜ length (now rp) ≡ length (now rt) ⌝ ∗ ⌜ T (rising (now rt)) ⌝ ∗ ⌜ T (every (isTime (now rt)) (take count (now row))) ⌝ }
-        ensures { λ r. ⌜ (r .mean ≡ foldl (meanAt (now (rt .entry)) (now (rp .entry))) (self .mean) (take count (now (row .entry)))) × (r .fit ≡ foldl (fitAt (now (rt .entry)) (now (rp .entry))) (self .fit) (take count (now (row .entry)))) × (r .snr ≡ foldl (snrAt (now (rt .entry)) (now (rp .entry))) (self .snr) (take count (now (row .entry)))) × T (every (fitsAt (now (rt .entry)) (now (rp .entry))) (take count (now (row .entry)))) ⌝ }
+        ensures { λ r. ⌜ SumsOver (now (rt .entry)) (now (rp .entry)) self (take count (now (row .entry))) r ⌝ }
     {
         let n = shorter(count, row.len());
         let mut sums = self;
@@ -189,7 +189,7 @@ impl InnerSums {
     // The raw bars that the elements of these merged bars name.
     fn rows(self, rt: &[i64], rp: &[[f64; 6]], cs: &[usize], es: &[[i64; 101]]) -> Self
         requires { ⌜ (length (now cs) ≡ length (now es)) × (length (now rp) ≡ length (now rt)) ⌝ ∗ ⌜ T (rising (now rt)) ⌝ ∗ ⌜ T (namedRows (now rt) (now cs) (now es)) ⌝ }
-        ensures { λ r. ⌜ (r .mean ≡ foldl (meanAt (now (rt .entry)) (now (rp .entry))) (self .mean) (elementsIn (now (cs .entry)) (now (es .entry)))) × (r .fit ≡ foldl (fitAt (now (rt .entry)) (now (rp .entry))) (self .fit) (elementsIn (now (cs .entry)) (now (es .entry)))) × (r .snr ≡ foldl (snrAt (now (rt .entry)) (now (rp .entry))) (self .snr) (elementsIn (now (cs .entry)) (now (es .entry)))) × T (every (fitsAt (now (rt .entry)) (now (rp .entry))) (elementsIn (now (cs .entry)) (now (es .entry)))) ⌝ }
+        ensures { λ r. ⌜ SumsOver (now (rt .entry)) (now (rp .entry)) self (elementsIn (now (cs .entry)) (now (es .entry))) r ⌝ }
     {
         let mut sums = self;
         let mut i: usize = 0;
@@ -247,7 +247,7 @@ struct InnerMeasures {
 // In two passes over the elements of the inner merged bars.
 fn inner_measures(rt: &[i64], rp: &[[f64; 6]], cs: &[usize], es: &[[i64; 101]]) -> InnerMeasures
     requires { ⌜ (length (now cs) ≡ length (now es)) × (length (now rp) ≡ length (now rt)) ⌝ ∗ ⌜ T (rising (now rt)) ⌝ ∗ ⌜ T (namedRows (now rt) (now cs) (now es)) ⌝ }
-    ensures { λ r. ⌜ ((rs : List BarOf) → closesOf rs ≡ map (closeAt (now (rt .entry)) (now (rp .entry))) (elementsIn (now (cs .entry)) (now (es .entry))) → opensAndCloses rs ≡ map (openCloseAt (now (rt .entry)) (now (rp .entry))) (elementsIn (now (cs .entry)) (now (es .entry))) → (r .snr ≡ snrOf rs) × (r .«power_snr» ≡ powerSnr rs) × (r .slope ≡ slopeOf rs) × (r .acceleration ≡ accelerationOf rs)) ⌝ }
+    ensures { λ r. ⌜ ((rs : List BarOf) → closesRead rs (now (rt .entry)) (now (rp .entry)) (elementsIn (now (cs .entry)) (now (es .entry))) → pairsRead rs (now (rt .entry)) (now (rp .entry)) (elementsIn (now (cs .entry)) (now (es .entry))) → (r .snr ≡ snrOf rs) × (r .«power_snr» ≡ powerSnr rs) × (r .slope ≡ slopeOf rs) × (r .acceleration ≡ accelerationOf rs)) ⌝ }
 {
     let none = InnerSums::new();
     let s = none.rows(rt, rp, cs, es);

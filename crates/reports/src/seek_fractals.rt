@@ -2,13 +2,14 @@
 ghost use mathlib.Core.Path.{_≡_};
 ghost use mathlib.Core.Bool.{false};
 ghost use mathlib.Core.Option.{Option·map};
-ghost use Rattle.stores.specs.Stores.{rawStore, RoomRaw};
+ghost use Rattle.stores.specs.Code.StoreRows.{RoomRaw};
 ghost use Rattle.machine.specs.Fractals.{taken};
-ghost use Rattle.check_bi.specs.Scan.{candleOf};
-ghost use Rattle.strokes.specs.StrokeStore.{plainBar, fractalsOf};
+ghost use Rattle.check_bi.specs.Code.Scan.{candleOf};
+ghost use Rattle.strokes.specs.Code.StrokeSteps.{plainBar, fractalsBetween};
 ghost use Rattle.reports.specs.FractalAnswers.{answersOf};
-ghost use Rattle.reports.specs.Reports.{nth};
-ghost use Rattle.reports.specs.SeekFractals.{lastSought, passFractal, seekWindow, foundOf};
+ghost use Rattle.named.specs.ReportQuestions.{nth};
+ghost use Rattle.reports.specs.Code.SeekFractals.{lastSought, passFractal, seekWindow, foundOf};
+ghost use Rattle.stores.specs.Lent.{rawHeld, rawBefore};
 use super::fractal_answers;
 use super::fractal_answers::FractalAnswers;
 use super::fractal_answers::Strength;
@@ -118,8 +119,8 @@ fn begin(place: usize) -> Sought
 
 // Among the fractals of the first n bars.
 pub fn seek(ut: &[i64], ui: &[i32], up: &[[f64; 6]], n: usize, place: usize) -> Sought
-    requires { ⌜ RoomRaw (rawStore (now ut) (now ui) (now up)) n ⌝ }
-    ensures { λ r. ⌜ foundOf r ≡ Option·map answersOf (nth (fractalsOf (rawStore (now (ut .entry)) (now (ui .entry)) (now (up .entry))) 0 n) place) ⌝ }
+    requires { ⌜ RoomRaw (rawHeld ut ui up) n ⌝ }
+    ensures { λ r. ⌜ foundOf r ≡ Option·map answersOf (nth (fractalsBetween (rawBefore ut ui up) 0 n) place) ⌝ }
 {
     let mut k = begin(place);
     let mut i: usize = 0;

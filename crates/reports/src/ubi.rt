@@ -6,16 +6,20 @@ ghost use Prim.Native.Nat.{_+_, _≤_, min};
 ghost use lib.ListN.{length, take};
 ghost use lib.Ieee.{lt, le};
 ghost use Rattle.bars.specs.Lists.{join};
-ghost use Rattle.stores.specs.Stores.{rawStore, mergedStore, RoomRaw, barAt, rawBars, zipWith};
-ghost use Rattle.strokes.specs.Stored.{fractalStore, stateOf};
-ghost use Rattle.sound.specs.SoundStand.{storesOf};
-ghost use Rattle.sound.specs.Question4.{IsSound};
-ghost use Rattle.reports.specs.Unfinished.{oneOf, turned as turnedOf, getUbi};
-ghost use Rattle.reports.specs.UbiAnswers.{RisingFirst, noBar, noneSeen, see as seeOf, seeAt, threeBars, noUbi, ubiOf, ubiGiven, ubiAnswer};
-use super::finished::kept_strokes;
+ghost use Rattle.stores.specs.Stores.{rawBars, zipWith};
+ghost use Rattle.stores.specs.Code.StoreRows.{RoomRaw, barAt};
+ghost use Rattle.strokes.specs.StateRead.{stateOf};
+ghost use Rattle.strokes.specs.Lent.{held, before};
+ghost use Rattle.sound.specs.StandSound.{IsSound};
+ghost use Rattle.reports.specs.Unfinished.{oneOf, getUbi};
+ghost use Rattle.machine.specs.Strokes.{turned as turnedOf};
+ghost use Rattle.reports.specs.UbiAnswers.{noBar, threeBars, noUbi, ubiGiven, ubiAnswer};
+ghost use Rattle.reports.specs.Code.UbiSteps.{RisingFirst, noneSeen, see as seeOf, seeAt, ubiOf};
+ghost use Rattle.stores.specs.Lent.{rawHeld, rawBefore};
 use bars::Bar;
 use machine::Direction;
 use machine::Mark;
+use named::kept;
 use strokes::Stand;
 
 // The highest and the lowest of the bars that were seen, if any was.
@@ -94,8 +98,8 @@ fn see(e: Extremes, b: Bar) -> Extremes
 
 // The raw bar of time t, if one of the first n has it.
 fn see_named(e: Extremes, rt: &[i64], ri: &[i32], rp: &[[f64; 6]], n: usize, t: i64) -> Extremes
-    requires { ⌜ RisingFirst (rawStore (now rt) (now ri) (now rp)) n ⌝ }
-    ensures { λ r. ⌜ r ≡ seeAt (take n (rawBars (rawStore (now (rt .entry)) (now (ri .entry)) (now (rp .entry))))) e t ⌝ }
+    requires { ⌜ RisingFirst (rawHeld rt ri rp) n ⌝ }
+    ensures { λ r. ⌜ r ≡ seeAt (take n (rawBars (rawBefore rt ri rp))) e t ⌝ }
 {
     let p = stores::find_time(rt, n, t);
     if p < n {
@@ -127,8 +131,8 @@ fn see_row(
     row: &[i64],
     count: usize,
 ) -> Extremes
-    requires { ⌜ RisingFirst (rawStore (now rt) (now ri) (now rp)) n ⌝ }
-    ensures { λ r. ⌜ r ≡ foldl (seeAt (take n (rawBars (rawStore (now (rt .entry)) (now (ri .entry)) (now (rp .entry)))))) e (take count (now (row .entry))) ⌝ }
+    requires { ⌜ RisingFirst (rawHeld rt ri rp) n ⌝ }
+    ensures { λ r. ⌜ r ≡ foldl (seeAt (take n (rawBars (rawBefore rt ri rp)))) e (take count (now (row .entry))) ⌝ }
 {
     let k = smaller(count, row.len());
     let mut s = e;
@@ -151,8 +155,8 @@ fn see_rows(
     cs: &[usize],
     es: &[[i64; 101]],
 ) -> Extremes
-    requires { ⌜ RisingFirst (rawStore (now rt) (now ri) (now rp)) n ⌝ ∗ ⌜ (length (now cs) ≡ length (now es)) × (length (now cs) ≤ 65536) ⌝ }
-    ensures { λ r. ⌜ r ≡ foldl (seeAt (take n (rawBars (rawStore (now (rt .entry)) (now (ri .entry)) (now (rp .entry)))))) e (join (zipWith take (now (cs .entry)) (now (es .entry)))) ⌝ }
+    requires { ⌜ RisingFirst (rawHeld rt ri rp) n ⌝ ∗ ⌜ (length (now cs) ≡ length (now es)) × (length (now cs) ≤ 65536) ⌝ }
+    ensures { λ r. ⌜ r ≡ foldl (seeAt (take n (rawBars (rawBefore rt ri rp)))) e (join (zipWith take (now (cs .entry)) (now (es .entry)))) ⌝ }
 {
     let mut s = e;
     let mut i: usize = 0;
@@ -221,8 +225,8 @@ fn refused(failed: u64) -> UbiAnswer
 
 // The fractal of this mark whose first bar stands at place `at`.
 fn fractal_at(ut: &[i64], ui: &[i32], up: &[[f64; 6]], at: usize, mark: Mark) -> FractalBars
-    requires { ⌜ RoomRaw (rawStore (now ut) (now ui) (now up)) (at + 3) ⌝ }
-    ensures { λ r. ⌜ r ≡ threeBars mark (barAt (rawStore (now (ut .entry)) (now (ui .entry)) (now (up .entry))) at) (barAt (rawStore (now (ut .entry)) (now (ui .entry)) (now (up .entry))) (at + 1)) (barAt (rawStore (now (ut .entry)) (now (ui .entry)) (now (up .entry))) (at + 2)) ⌝ }
+    requires { ⌜ RoomRaw (rawHeld ut ui up) (at + 3) ⌝ }
+    ensures { λ r. ⌜ r ≡ threeBars mark (barAt (rawBefore ut ui up) at) (barAt (rawBefore ut ui up) (at + 1)) (barAt (rawBefore ut ui up) (at + 2)) ⌝ }
 {
     let left = stores::read_bar(ut, ui, up, at);
     let mid = stores::read_bar(ut, ui, up, at + 1);
@@ -291,10 +295,10 @@ fn summary(
     fs: &[[i64; 6]],
     fp: &[[f64; 18]],
 ) -> UbiAnswer
-    requires { ⌜ IsSound stand (storesOf (rawStore (now rt) (now ri) (now rp)) (mergedStore (now ut) (now ui) (now up) (now uc) (now ue)) (mergedStore (now st) (now si) (now sp) (now sc) (now se)) (fractalStore (now fs) (now fp))) ⌝ }
-    ensures { λ r. ⌜ r ≡ ubiGiven (getUbi ((stateOf stand (storesOf (rawStore (now (rt .entry)) (now (ri .entry)) (now (rp .entry))) (mergedStore (now (ut .entry)) (now (ui .entry)) (now (up .entry)) (now (uc .entry)) (now (ue .entry))) (mergedStore (now (st .entry)) (now (si .entry)) (now (sp .entry)) (now (sc .entry)) (now (se .entry))) (fractalStore (now (fs .entry)) (now (fp .entry))))) .raw) ((stateOf stand (storesOf (rawStore (now (rt .entry)) (now (ri .entry)) (now (rp .entry))) (mergedStore (now (ut .entry)) (now (ui .entry)) (now (up .entry)) (now (uc .entry)) (now (ue .entry))) (mergedStore (now (st .entry)) (now (si .entry)) (now (sp .entry)) (now (sc .entry)) (now (se .entry))) (fractalStore (now (fs .entry)) (now (fp .entry))))) .unfinished) ((stateOf stand (storesOf (rawStore (now (rt .entry)) (now (ri .entry)) (now (rp .entry))) (mergedStore (now (ut .entry)) (now (ui .entry)) (now (up .entry)) (now (uc .entry)) (now (ue .entry))) (mergedStore (now (st .entry)) (now (si .entry)) (now (sp .entry)) (now (sc .entry)) (now (se .entry))) (fractalStore (now (fs .entry)) (now (fp .entry))))) .strokes)) ⌝ }
+    requires { ⌜ IsSound stand (held rt ri rp ut ui up uc ue st si sp sc se fs fp) ⌝ }
+    ensures { λ r. ⌜ r ≡ ubiGiven (getUbi ((stateOf stand (before rt ri rp ut ui up uc ue st si sp sc se fs fp)) .raw) ((stateOf stand (before rt ri rp ut ui up uc ue st si sp sc se fs fp)) .unfinished) ((stateOf stand (before rt ri rp ut ui up uc ue st si sp sc se fs fp)) .strokes)) ⌝ }
 {
-    let k = kept_strokes(stand);
+    let k = kept(stand);
     let n = stand.raw;
     let m = stand.unfinished;
     if k == 0 {
@@ -341,9 +345,9 @@ pub fn get_ubi(
     fs: &[[i64; 6]],
     fp: &[[f64; 18]],
 ) -> UbiAnswer
-    ensures { λ r. ⌜ r ≡ ubiAnswer stand (storesOf (rawStore (now (rt .entry)) (now (ri .entry)) (now (rp .entry))) (mergedStore (now (ut .entry)) (now (ui .entry)) (now (up .entry)) (now (uc .entry)) (now (ue .entry))) (mergedStore (now (st .entry)) (now (si .entry)) (now (sp .entry)) (now (sc .entry)) (now (se .entry))) (fractalStore (now (fs .entry)) (now (fp .entry)))) ⌝ }
+    ensures { λ r. ⌜ r ≡ ubiAnswer stand (before rt ri rp ut ui up uc ue st si sp sc se fs fp) ⌝ }
 {
-    if !sound::is_sound(
+    if !question4::is_sound(
         stand,
         rt,
         ri,

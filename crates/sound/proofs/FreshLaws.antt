@@ -11,9 +11,10 @@ use Rattle.strokes.specs.declared.Rooms.{Rooms}
 use Rattle.strokes.specs.declared.Stand.{Stand}
 use Rattle.sound.specs.declared.fresh_stand.FreshAnswer.{FreshAnswer}
 use Rattle.machine.specs.FeedQuestions.{orElse}
-use Rattle.machine.specs.Stand.{Settings, State, fresh}
+use Rattle.machine.specs.Stand.{Settings, fresh}
 use Rattle.machine.specs.Soundness.{isSetting, settingsPass, roomsPass, settingsSound, countsFit, barsOf, fewStrokes, rawPass, mergedPass, rises, barTimes, mergedTimes, timesRise, strokesPass, asked, elementsKept, newestIn, newestLast, listsSound, soundBut, sound}
-use Rattle.strokes.specs.Stored.{Stores, settingsOf, stateOf, barCounts, fractalCounts, strokesWith, total, storesSized, countsSized, elementsSized, sized}
+use Rattle.strokes.specs.StateRead.{settingsOf, stateOf, barCounts, fractalCounts, strokesWith, total, storesSized, countsSized, elementsSized, sized}
+use Rattle.strokes.specs.Lent.{Stores}
 use Rattle.sound.specs.FreshStand.{isAsked, orDefault, roomsFit, freshFailed, emptyStand, noStand, freshBy, freshOf}
 
 -- ---- the answer

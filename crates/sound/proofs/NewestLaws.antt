@@ -9,17 +9,19 @@ use lib.Dec.{T, leb, leb→le}
 use lib.Ieee.Fits.{and-l, and-r}
 use Rattle.bars.specs.Bars.{Merged}
 use Rattle.bars.specs.Lists.{last}
-use Rattle.stores.specs.Stores.{SizedRaw, SizedMerged, rawBars, mergedBars, zipWith}
+use Rattle.stores.specs.Stores.{rawBars, mergedBars, zipWith}
+use Rattle.stores.specs.Code.StoreRows.{SizedRaw, SizedMerged}
 use Rattle.machine.specs.Soundness.{barTimes, newestLast}
 use Rattle.strokes.specs.declared.Stand.{Stand}
-use Rattle.strokes.specs.Stored.{Stores, stateOf, barCounts, total, rawSized, mergedSized, fractalSized, storesSized, countsSized, sized}
+use Rattle.strokes.specs.StateRead.{stateOf, barCounts, total, rawSized, mergedSized, fractalSized, storesSized, countsSized, sized}
+use Rattle.strokes.specs.Lent.{Stores}
 use Rattle.strokes.proofs.StoredStrokes.{sized-merged}
-use Rattle.sound.specs.SoundStand.{endsIn, newestRow}
-use Rattle.sound.specs.NewestBar.{NewestRoom, NewestIs}
+use Rattle.sound.specs.Code.SoundStand.{endsIn, newestRow}
+use Rattle.sound.specs.Code.NewestBar.{NewestRoom, NewestIs}
 use Rattle.sound.proofs.SoundFits.{raw-fit, fractal-fit}
 use Rattle.sound.proofs.SoundStrokes.{cut-lengths}
 use Rattle.sound.proofs.SoundReads.{raw-rows, raw-times, raw-take, rows-of, merged-take, merged-elements, newest-elements}
-use Rattle.sound.proofs.SoundFacts.{Sizes, sizes}
+use Rattle.sound.proofs.SoundFacts.{sizes}
 
 -- every store has its room, and the kept bars fit the first two
 pub record Lengths (s : Stand) (m : Stores) : Type 0 where

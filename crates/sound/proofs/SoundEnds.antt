@@ -12,18 +12,19 @@ use lib.Dec.{T, leb}
 use lib.Ieee.{Float, nan, eq}
 use lib.Ieee.Fits.{and-l, and-r}
 use Rattle.arith.proofs.FloatOrder.{eq-left, eq-refl, or-r}
-use Rattle.bars.specs.Lists.{every, some-of}
+use Rattle.bars.specs.Lists.{some-of}
 use Rattle.stores.specs.Stores.{zipWith, barOf}
 use Rattle.stores.proofs.Columns.{zip-at, zip-length, zip-none}
 use borrow.Author.Tests.{le-leb}
 use Rattle.machine.specs.declared.Mark.{Mark}
 use Rattle.machine.specs.declared.Mark.the-variants.{D, G}
-use Rattle.machine.specs.Fractals.{Fractal, timeOf, fxOf, sameMark, taken, isTop}
-use Rattle.strokes.specs.Stored.{fractalStore, storedFractals, rowBar, rowFractal, fractalOf, noFractal}
+use Rattle.machine.specs.Fractals.{Fractal, timeOf, fxOf, sameMark, taken}
+use Rattle.strokes.specs.StateRead.{storedFractals, rowBar, rowFractal, fractalOf, noFractal}
+use Rattle.strokes.specs.Lent.{fractalStore}
 use Rattle.machine.specs.Soundness.{alternates, sameTime, sameFractal}
-use Rattle.sound.specs.SoundStand.{topRow, differ, alternating, isReal, endsHeld}
-use Rattle.machine.proofs.Times.{le-refl}
-use Rattle.sound.proofs.SoundScans.{pair, same, yes, holds}
+use Rattle.sound.specs.Code.SoundStand.{topRow, differ, alternating, isReal, endsHeld}
+use Rattle.bars.proofs.Times.{le-refl}
+use Rattle.arith.proofs.Tests.{pair, same, yes}
 use Rattle.sound.proofs.SoundReads.{top-is, row-high, row-low}
 
 -- ---- marks

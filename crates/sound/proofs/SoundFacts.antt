@@ -14,30 +14,31 @@ use lib.Ieee.Fits.{and-l, and-r}
 use Rattle.bars.specs.declared.Bar.{Bar}
 use Rattle.bars.specs.Bars.{Merged}
 use Rattle.bars.specs.Lists.{every, last}
-use Rattle.stores.specs.Stores.{SizedRaw, SizedMerged, rawBars, mergedBars, rising}
+use Rattle.stores.specs.Stores.{mergedBars}
+use Rattle.stores.specs.Code.StoreRows.{SizedRaw, SizedMerged, rising}
 use Rattle.stores.proofs.Columns.{raw-length, merged-length}
 use Rattle.strokes.specs.declared.Stand.{Stand}
 use Rattle.machine.specs.Fractals.{Fractal}
-use Rattle.machine.specs.Strokes.{Stroke}
 use Rattle.machine.specs.Stand.{Settings, State}
-use Rattle.machine.specs.Soundness.{isRoom, roomsPass, barsOf, fewerFractals, countsFit, isSetting, settingsPass, fewStrokes, rawPass, mergedPass, rises, barTimes, mergedTimes, strokeRises, timesRise, isStroke, strokesPass, elementsKept, closes, newestIn, newestLast, settingsSound, listsSound, soundBut, sound}
-use Rattle.strokes.specs.Stored.{Stores, strokeWith, strokesWith, storedFractals, settingsOf, stateOf, barCounts, fractalCounts, total, storesSized, countsSized, elementsSized, sized}
-use Rattle.strokes.specs.StoreSteps.{RisingRaw, LastHas, keptRaw, keptUnfinished}
-use Rattle.strokes.specs.StrokeStore.{SizedFractals, keptStrokes, Kept, LastStands}
+use Rattle.machine.specs.Soundness.{isRoom, roomsPass, barsOf, fewerFractals, countsFit, isSetting, settingsPass, fewStrokes, rawPass, mergedPass, rises, barTimes, mergedTimes, strokeRises, timesRise, strokesPass, elementsKept, closes, newestIn, newestLast, settingsSound, listsSound, soundBut, sound}
+use Rattle.strokes.specs.StateRead.{strokeWith, strokesWith, storedFractals, settingsOf, stateOf, barCounts, fractalCounts, total, storesSized, countsSized, elementsSized, sized}
+use Rattle.strokes.specs.Lent.{Stores}
+use Rattle.strokes.specs.Code.BarSteps.{RisingRaw, LastHas}
+use Rattle.strokes.specs.Code.StrokeSteps.{SizedFractals, keptStrokes, Kept, LastStands}
 use Rattle.strokes.proofs.StoredStates.{kept-raw, kept-unfinished, rising-raw, last-has}
 use Rattle.strokes.proofs.StoredStrokes.{kept-of, last-stands, strokes-length}
-use Rattle.sound.specs.SoundStand.{numbersPass}
-use Rattle.sound.specs.Question4.{IsSound, question4}
-use Rattle.sound.proofs.SoundScans.{pair, yes, holds}
+use Rattle.sound.specs.Code.SoundStand.{numbersPass}
+use Rattle.sound.specs.StandSound.{IsSound, storesSound}
+use Rattle.arith.proofs.Tests.{pair, yes, holds}
 use Rattle.sound.proofs.SoundFits.{Fit, fit}
 
 both : (a b : Bool) → T (a && b) → T a × T b
 both a b h = (and-l a b h, and-r a b h)
 
 -- question 4 has passed
-pub is-sound : (s : Stand) (m : Stores) → question4 s m ≡ true → IsSound s m
-unfolding question4
-is-sound s m e =
+pub stores-sound : (s : Stand) (m : Stores) → storesSound s m ≡ true → IsSound s m
+unfolding storesSound
+stores-sound s m e =
     let k = both (sized s m) (sound (settingsOf s) (stateOf s m)) (holds e) in
     record { sizes = k .0; state = k .1 }
 

@@ -5,13 +5,15 @@ use mathlib.Core.Bool.{Bool, true, false, _&&_}
 use lib.ListN.{length, take}
 use lib.Dec.{T, leb, eqb, leb→le, eqb→eq}
 use lib.Ieee.Fits.{and-l, and-r}
-use Rattle.stores.specs.Stores.{RawStore, MergedStore, SizedRaw, SizedMerged, rising}
+use Rattle.stores.specs.Stores.{RawStore, MergedStore}
+use Rattle.stores.specs.Code.StoreRows.{SizedRaw, SizedMerged, rising}
 use Rattle.strokes.specs.declared.Stand.{Stand}
 use Rattle.machine.specs.Soundness.{isRoom, roomsPass, settingsPass, settingsSound}
-use Rattle.strokes.specs.Stored.{Stores, FractalStore, settingsOf, barCounts, total, rawSized, mergedSized, fractalSized, storesSized, countsSized}
+use Rattle.strokes.specs.StateRead.{settingsOf, barCounts, total, rawSized, mergedSized, fractalSized, storesSized, countsSized}
+use Rattle.strokes.specs.Lent.{Stores, FractalStore}
 use Rattle.strokes.proofs.StoredStrokes.{sized-merged}
-use Rattle.sound.specs.SoundStand.{numbersPass, rawColumns, unfinishedColumns, frontColumns}
-use Rattle.sound.proofs.SoundScans.{yes, holds}
+use Rattle.sound.specs.Code.SoundStand.{numbersPass, rawColumns, unfinishedColumns, frontColumns}
+use Rattle.arith.proofs.Tests.{yes, holds}
 use Rattle.sound.proofs.SoundStrokes.{raw-rising}
 
 eq-two : (n a b : ℕ) → T (eqb a n && eqb b n) → (a ≡ n) × (b ≡ n)

@@ -8,14 +8,14 @@ use lib.ListN.{length, take, drop}
 use lib.IntN.{ℤ}
 use lib.Ieee.{Float}
 use Rattle.bars.specs.declared.Bar.{Bar}
-use Rattle.bars.specs.Bars.{Merged}
 use Rattle.bars.specs.Lists.{every, last}
 use Rattle.bars.specs.Questions.{isBar}
-use Rattle.stores.specs.Stores.{RawStore, SizedRaw, rawStore, mergedStore, rawBars, mergedBars, zipWith}
+use Rattle.stores.specs.Stores.{RawStore, mergedStore, rawBars, mergedBars, zipWith}
+use Rattle.stores.specs.Code.StoreRows.{SizedRaw}
 use Rattle.stores.proofs.Columns.{zip-drop}
 use Rattle.machine.specs.Soundness.{rises, barTimes, mergedTimes, isMerged, isNamed, asked, newestIn}
-use Rattle.sound.specs.SoundStand.{inTime, timesPass, rawRow, mergedRow, smallCount, isTime, namedRows, newestRow, endsIn, skipped, rawColumns, unfinishedColumns}
-use Rattle.sound.proofs.SoundScans.{and-assoc}
+use Rattle.sound.specs.Code.SoundStand.{inTime, timesPass, rawRow, mergedRow, smallCount, isTime, namedRows, newestRow, endsIn, skipped, rawColumns, unfinishedColumns}
+use Rattle.arith.proofs.Tests.{and-assoc}
 use Rattle.sound.proofs.SoundStrokes.{cut-lengths}
 use Rattle.sound.proofs.SoundReads.{Rows, raw-rows, raw-times, raw-every, raw-take, merged-times, merged-every, merged-elements, merged-length, named-elements, asked-drop, newest-elements}
 use Rattle.strokes.proofs.BareStates.{map-drop}

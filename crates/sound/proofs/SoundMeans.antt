@@ -16,16 +16,17 @@ use borrow.Author.Tests.{le-ltb, lt-ltb, ltb-true, ltb-false}
 use Rattle.bars.specs.declared.Bar.{Bar}
 use Rattle.bars.specs.Bars.{Merged}
 use Rattle.bars.specs.Lists.{every, some-of, init}
-use Rattle.stores.specs.Stores.{MergedStore, mergedStore, mergedBars, zipWith}
+use Rattle.stores.specs.Stores.{mergedStore, mergedBars}
 use Rattle.stores.proofs.Columns.{zip-take, zip-drop, zip-length}
 use Rattle.stores.proofs.KeptBars.{map-take}
 use Rattle.machine.specs.Fractals.{Fractal}
 use Rattle.machine.specs.Strokes.{Stroke}
-use Rattle.machine.specs.Soundness.{fewerFractals, barTimes, isMerged, rises, mergedTimes, fractalTimes, strokeRises, alternates, sameFractal, isStroke, isNamed, inner}
-use Rattle.strokes.specs.Stored.{FractalStore, fractalStore, rowFractal, storedFractals, noFractal, strokeWith, strokesWith, total}
+use Rattle.machine.specs.Soundness.{fewerFractals, barTimes, isMerged, rises, strokeRises, sameFractal, isStroke, isNamed, inner}
+use Rattle.strokes.specs.StateRead.{rowFractal, storedFractals, noFractal, strokeWith, strokesWith, total}
+use Rattle.strokes.specs.Lent.{fractalStore}
 use Rattle.strokes.proofs.BareStates.{map-drop}
-use Rattle.sound.specs.SoundStand.{inTime, timesPass, mergedRow, smallCount, isTime, namedRows, topRow, alternating, endsHeld, middleTimes, fractalColumns, strokeColumns, strokesColumns}
-use Rattle.sound.proofs.SoundScans.{and-assoc, same}
+use Rattle.sound.specs.Code.SoundStand.{inTime, timesPass, mergedRow, smallCount, isTime, namedRows, topRow, alternating, endsHeld, middleTimes, fractalColumns, strokeColumns, strokesColumns}
+use Rattle.arith.proofs.Tests.{and-assoc, same}
 use Rattle.sound.proofs.SoundReads.{and-swap, Rows, rows-of, merged-times, merged-every, merged-elements, merged-length, named-elements, merged-take, merged-drop, init-take, fractal-middles}
 use Rattle.sound.proofs.SoundEnds.{marks-are, ends-are, ends-none}
 

@@ -15,14 +15,16 @@ use lib.Ieee.Fits.{and-l, and-r}
 use borrow.Author.Tests.{lt-ltb, le-leb, lt-leb}
 use Rattle.arith.proofs.FloatOrder.{lt-or-ge, or-l, or-r}
 use Rattle.bars.specs.Lists.{every, some-of, last}
-use Rattle.stores.specs.Stores.{zipWith, rising, placeOf, nextIf}
-use Rattle.stores.proofs.Searching.{place-at, rising-tail, rising-head}
+use Rattle.stores.specs.Stores.{zipWith}
+use Rattle.stores.specs.Code.StoreRows.{rising, placeOf, nextIf}
+use Rattle.stores.proofs.Searching.{place-at, rising-tail}
 use Rattle.stores.proofs.Columns.{zip-at, zip-length}
-use Rattle.machine.proofs.Times.{lt-trans, lt-not-le, le-antisym, not-lt-le, le-not-lt}
-use Rattle.sound.proofs.SoundScans.{and-assoc, and-true, and-false, yes, no, holds, fails, pair, same, every-turn, every-end}
+use Rattle.bars.proofs.Times.{lt-trans, lt-not-le, le-antisym, not-lt-le}
+use Rattle.sound.proofs.SoundScans.{every-turn, every-end}
+use Rattle.arith.proofs.Tests.{and-assoc, and-true, and-false, yes, no, holds, fails, pair, same}
 use Rattle.machine.specs.Soundness.{sameTime, endsOn}
-use Rattle.strokes.specs.Stored.{total}
-use Rattle.sound.specs.SoundStand.{atPlace, isTime, namedRows, endsIn, newestRow}
+use Rattle.strokes.specs.StateRead.{total}
+use Rattle.sound.specs.Code.SoundStand.{atPlace, isTime, namedRows, endsIn, newestRow}
 
 -- ---- a time at its place
 

@@ -14,13 +14,14 @@ use Rattle.bars.specs.declared.Bar.{Bar}
 use Rattle.bars.specs.Bars.{Merged}
 use Rattle.bars.specs.Lists.{every, some-of, last, init}
 use Rattle.bars.specs.Questions.{question5, question6, question7, question8, fromZero, isBar}
-use Rattle.stores.specs.Stores.{RawStore, MergedStore, rawStore, mergedStore, zipWith, barOf, mergedWith, rawBars, mergedBars}
+use Rattle.stores.specs.Stores.{MergedStore, rawStore, mergedStore, zipWith, barOf, withFirst, rawBars, mergedBars}
 use Rattle.stores.proofs.Columns.{zip-take, zip-drop}
-use Rattle.machine.specs.Fractals.{Fractal, isTop, timeOf}
-use Rattle.strokes.specs.Stored.{fractalStore, storedFractals, rowBar, rowFractal, fractalOf}
-use Rattle.machine.specs.Soundness.{isMerged, barTimes, mergedTimes, fractalTimes, sameTime, names, isNamed, asked, endsOn, closes, newestIn}
-use Rattle.sound.specs.SoundStand.{inTime, rawRow, mergedRow, isTime, namedRows, endsIn, newestRow, skipped, topRow, middleTimes}
-use Rattle.sound.proofs.SoundScans.{and-assoc}
+use Rattle.machine.specs.Fractals.{isTop, timeOf}
+use Rattle.strokes.specs.StateRead.{storedFractals, rowBar, rowFractal, fractalOf}
+use Rattle.strokes.specs.Lent.{fractalStore}
+use Rattle.machine.specs.Soundness.{isMerged, barTimes, mergedTimes, fractalTimes, sameTime, names, isNamed, asked, closes, newestIn}
+use Rattle.sound.specs.Code.SoundStand.{inTime, rawRow, mergedRow, isTime, endsIn, skipped, topRow, middleTimes}
+use Rattle.arith.proofs.Tests.{and-assoc}
 
 pub and-swap : (a b c d : Bool) → ((a && b) && (c && d)) ≡ ((a && c) && (b && d))
 and-swap true true c d = refl
@@ -67,8 +68,8 @@ raw-take n ts is ps =
 
 -- ---- the merged bars
 
-is-merged-row : (t i : ℤ) (p : List Float) (n : ℕ) (e : List ℤ) → isMerged (mergedWith (barOf t i p) n e) ≡ (inTime t && mergedRow p)
-unfolding isMerged question5 question6 question8 fromZero barOf mergedWith inTime mergedRow
+is-merged-row : (t i : ℤ) (p : List Float) (n : ℕ) (e : List ℤ) → isMerged (withFirst (barOf t i p) n e) ≡ (inTime t && mergedRow p)
+unfolding isMerged question5 question6 question8 fromZero barOf withFirst inTime mergedRow
 is-merged-row t i p n e =
     let b = barOf t i p in
     sym (and-assoc (question5 b) (question6 b) (question8 b && (fromZero (b .vol) && fromZero (b .amount))))
@@ -92,7 +93,7 @@ rows-of ts is ps cs es a b c d = more cs es (raw-rows ts is ps a b) c d
 
 pub merged-times : {ts is : List ℤ} {ps : List (List Float)} {cs : List ℕ} {es : List (List ℤ)} → Rows ts is ps cs es
     → mergedTimes (mergedBars (mergedStore ts is ps cs es)) ≡ ts
-unfolding mergedTimes mergedBars rawBars zipWith barOf mergedWith
+unfolding mergedTimes mergedBars rawBars zipWith barOf withFirst
 merged-times no-rows = refl
 merged-times (next {t = t} r) = ap (λ (l : List ℤ). t ∷ l) (merged-times r)
 
@@ -105,7 +106,7 @@ merged-every (next {t = t} {i = i} {p = p} {n = n} {e = e} {ts = ts} {ps = ps} r
 
 pub merged-elements : {ts is : List ℤ} {ps : List (List Float)} {cs : List ℕ} {es : List (List ℤ)} → Rows ts is ps cs es
     → map (λ k. k .elements) (mergedBars (mergedStore ts is ps cs es)) ≡ zipWith take cs es
-unfolding mergedBars rawBars zipWith mergedWith
+unfolding mergedBars rawBars zipWith withFirst
 merged-elements no-rows = refl
 merged-elements (next {n = n} {e = e} r) = ap (λ (l : List (List ℤ)). take n e ∷ l) (merged-elements r)
 
@@ -168,9 +169,9 @@ pub merged-take : (n : ℕ) (s : MergedStore)
 unfolding mergedBars
 merged-take n s =
     let b = rawBars (rawStore (s .times) (s .ids) (s .prices)) in
-    sym (zip-take (λ f e. f e) n (zipWith mergedWith b (s .counts)) (s .elements))
-    ∙ ap (λ (l : List (List ℤ → Merged)). zipWith (λ f e. f e) l (take n (s .elements))) (sym (zip-take mergedWith n b (s .counts)))
-    ∙ ap (λ (l : List Bar). zipWith (λ f e. f e) (zipWith mergedWith l (take n (s .counts))) (take n (s .elements))) (raw-take n (s .times) (s .ids) (s .prices))
+    sym (zip-take (λ f e. f e) n (zipWith withFirst b (s .counts)) (s .elements))
+    ∙ ap (λ (l : List (List ℤ → Merged)). zipWith (λ f e. f e) l (take n (s .elements))) (sym (zip-take withFirst n b (s .counts)))
+    ∙ ap (λ (l : List Bar). zipWith (λ f e. f e) (zipWith withFirst l (take n (s .counts))) (take n (s .elements))) (raw-take n (s .times) (s .ids) (s .prices))
 
 raw-drop : (n : ℕ) (ts is : List ℤ) (ps : List (List Float)) → drop n (rawBars (rawStore ts is ps)) ≡ rawBars (rawStore (drop n ts) (drop n is) (drop n ps))
 unfolding rawBars
@@ -182,9 +183,9 @@ pub merged-drop : (n : ℕ) (s : MergedStore)
 unfolding mergedBars
 merged-drop n s =
     let b = rawBars (rawStore (s .times) (s .ids) (s .prices)) in
-    sym (zip-drop (λ f e. f e) n (zipWith mergedWith b (s .counts)) (s .elements))
-    ∙ ap (λ (l : List (List ℤ → Merged)). zipWith (λ f e. f e) l (drop n (s .elements))) (sym (zip-drop mergedWith n b (s .counts)))
-    ∙ ap (λ (l : List Bar). zipWith (λ f e. f e) (zipWith mergedWith l (drop n (s .counts))) (drop n (s .elements))) (raw-drop n (s .times) (s .ids) (s .prices))
+    sym (zip-drop (λ f e. f e) n (zipWith withFirst b (s .counts)) (s .elements))
+    ∙ ap (λ (l : List (List ℤ → Merged)). zipWith (λ f e. f e) l (drop n (s .elements))) (sym (zip-drop withFirst n b (s .counts)))
+    ∙ ap (λ (l : List Bar). zipWith (λ f e. f e) (zipWith withFirst l (drop n (s .counts))) (drop n (s .elements))) (raw-drop n (s .times) (s .ids) (s .prices))
 
 -- a stroke's merged bars but the first and the last
 pub init-take : {A : Type 0} (l : List A) → init l ≡ take (length l - 1) l

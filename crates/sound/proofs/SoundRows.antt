@@ -8,13 +8,11 @@ use lib.IntN.{ℤ, pos}
 use lib.Dec.{T, eqb}
 use lib.Ieee.{Float, nan, inf, fin, binary64, up, down, lt, eq, le, div, round}
 use lib.Ieee.Fits.{and-l, and-r}
-use Rattle.arith.proofs.FloatOrder.{contra, le-trans, le-not-lt}
-use Rattle.arith.proofs.FromZero.{NonNeg, zero-le, below-zero, round-nonneg}
-use Rattle.bars.specs.Questions.{leastPrice, mostPrice, isPrice, zeroFloat, hasMinus, fromZero, isVolume, question6, question7, question8}
+use Rattle.arith.proofs.FloatOrder.{le-trans}
+use Rattle.bars.specs.Questions.{leastPrice, mostPrice, isPrice, fromZero, isVolume, question6, question7, question8}
 use Rattle.stores.specs.Stores.{barOf}
-use Rattle.sound.specs.SoundStand.{rawRow, mergedRow}
-use Rattle.sound.proofs.SoundScans.{pair, same}
-use Rattle.machine.proofs.MergedRanges.{from-zero}
+use Rattle.sound.specs.Code.SoundStand.{rawRow, mergedRow}
+use Rattle.arith.proofs.Tests.{pair, same}
 
 -- ---- high and low
 
@@ -40,50 +38,6 @@ three-tests h l = same ((le leastPrice l && le h mostPrice) && le l h) ((isPrice
         pair (le leastPrice l && le h mostPrice) (le l h)
         (pair (le leastPrice l) (le h mostPrice) (and-l (le leastPrice l) (le l mostPrice) y) (and-r (le leastPrice h) (le h mostPrice) x))
         (and-r (isPrice h && isPrice l) (le l h) t)
-
--- ---- vol and amount
-
-recip-nonneg : (x : Float) → NonNeg x → NonNeg (div binary64 (fin false 1 (pos 0)) x)
-unfolding div
-recip-nonneg nan n = absurd n
-recip-nonneg (inf true) n = absurd n
-recip-nonneg (inf false) n = tt
-recip-nonneg (fin true m e) n = absurd n
-recip-nonneg (fin false m e) n = by (eqb m 0)
-  where
-    by : (c : Bool) → NonNeg (cond c (cond (eqb 1 0) nan (inf false)) (round binary64 false (1 * up (pos 0) * down e) (m * up e * down (pos 0))))
-    by true = tt
-    by false = round-nonneg binary64 (1 * up (pos 0) * down e) (m * up e * down (pos 0))
-
-recip-below : (e : ℤ) → T (le zeroFloat (div binary64 (fin false 1 (pos 0)) (fin true 0 e))) → ⊥
-unfolding zeroFloat div le lt eq
-recip-below e k = k
-
-minus-zero : (m : ℕ) (e : ℤ) → T (le zeroFloat (fin true m e)) → T (le zeroFloat (div binary64 (fin false 1 (pos 0)) (fin true m e))) → ⊥
-unfolding zeroFloat
-minus-zero zero e h k = recip-below e k
-minus-zero (suc m) e h k = contra (lt (fin true (suc m) e) (fin false 0 (pos 0))) (below-zero m e) (le-not-lt (fin false 0 (pos 0)) (fin true (suc m) e) h)
-
-from-zero-of : (x : Float) → T (le zeroFloat x) → T (le zeroFloat (div binary64 (fin false 1 (pos 0)) x)) → T (fromZero x)
-unfolding fromZero hasMinus
-from-zero-of nan h k = pair (le zeroFloat nan) true h tt
-from-zero-of (inf s) h k = pair (le zeroFloat (inf s)) true h tt
-from-zero-of (fin false m e) h k = pair (le zeroFloat (fin false m e)) true h tt
-from-zero-of (fin true m e) h k = absurd (minus-zero m e h k)
-
-recip-le : (x : Float) → T (fromZero x) → T (le zeroFloat (div binary64 (fin false 1 (pos 0)) x))
-unfolding zeroFloat
-recip-le x h = zero-le (div binary64 (fin false 1 (pos 0)) x) (recip-nonneg x (from-zero x h))
-
-not-below : (x : Float) → T (fromZero x) → T (le zeroFloat x)
-unfolding fromZero
-not-below x h = and-l (le zeroFloat x) (not (hasMinus x)) h
-
-pub from-zero-flags : (x : Float) → (le zeroFloat x && le zeroFloat (div binary64 (fin false 1 (pos 0)) x)) ≡ fromZero x
-from-zero-flags x =
-    let d = le zeroFloat (div binary64 (fin false 1 (pos 0)) x) in
-    same (le zeroFloat x && d) (fromZero x) (λ t. from-zero-of x (and-l (le zeroFloat x) d t) (and-r (le zeroFloat x) d t))
-    (λ t. pair (le zeroFloat x) d (not-below x t) (recip-le x t))
 
 -- ---- rows
 

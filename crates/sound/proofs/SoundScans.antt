@@ -12,55 +12,14 @@ use lib.Signed.{ltZ, leZ}
 use lib.Dec.{T, not-T, T-not}
 use lib.Ieee.{Float}
 use lib.Ieee.Fits.{and-l, and-r}
+use Rattle.arith.proofs.Tests.{and-assoc, and-true, holds, fails, pair, same}
 use Rattle.bars.specs.Lists.{every}
-use Rattle.stores.specs.Stores.{rising}
+use Rattle.stores.specs.Code.StoreRows.{rising}
 use Rattle.bars.specs.Questions.{firstTime, lastTime}
-use Rattle.machine.proofs.Times.{lt-trans, lt-le, le-trans, not-lt-le, le-not-lt, lt-not-le, le-lt-trans, lt-le-trans}
+use Rattle.bars.proofs.Times.{lt-trans, lt-le, le-trans}
 use Rattle.machine.specs.Soundness.{rises}
-use Rattle.sound.specs.SoundStand.{inTime, timesPass, topRow, differ, alternating, middleTimes, isReal, endsHeld}
+use Rattle.sound.specs.Code.SoundStand.{inTime, timesPass, topRow, differ, alternating, middleTimes, isReal, endsHeld}
 use Rattle.strokes.proofs.StoredStates.{rises-rising}
-
--- ---- flags
-
-pub and-assoc : (a b c : Bool) → (a && (b && c)) ≡ ((a && b) && c)
-and-assoc true b c = refl
-and-assoc false b c = refl
-
-pub and-true : (a : Bool) → (a && true) ≡ a
-and-true true = refl
-and-true false = refl
-
-pub and-false : (a : Bool) → (a && false) ≡ false
-and-false true = refl
-and-false false = refl
-
-pub yes : (a : Bool) → T a → a ≡ true
-yes true h = refl
-yes false h = absurd h
-
-pub holds : {a : Bool} → a ≡ true → T a
-holds e = subst T (sym e) tt
-
-pub no : (a : Bool) → T (not a) → a ≡ false
-no true h = absurd h
-no false h = refl
-
-pub fails : {a : Bool} → a ≡ false → T (not a)
-fails e = subst (λ (b : Bool). T (not b)) (sym e) tt
-
-pub pair : (a b : Bool) → T a → T b → T (a && b)
-pair true b h k = k
-pair false b h k = h
-
-pub both-true : {a b : Bool} → a ≡ true → b ≡ true → (a && b) ≡ true
-both-true e f = rw (e, f)
-
--- two flags are equal where each holds if the other does
-pub same : (a b : Bool) → (T a → T b) → (T b → T a) → a ≡ b
-same true true f g = refl
-same true false f g = absurd (f tt)
-same false true f g = absurd (g tt)
-same false false f g = refl
 
 -- ---- each element is tested
 

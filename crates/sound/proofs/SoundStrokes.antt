@@ -10,13 +10,13 @@ use lib.IntN.{ℤ}
 use lib.Dec.{T, ltb}
 use lib.Ieee.Fits.{and-l, and-r}
 use Rattle.bars.specs.Lists.{every}
-use Rattle.stores.specs.Stores.{rising}
+use Rattle.stores.specs.Code.StoreRows.{rising}
 use Rattle.machine.specs.Soundness.{rises}
 use lib.Ieee.{Float}
 use borrow.Author.Tests.{lt-ltb, le-ltb}
-use Rattle.strokes.specs.Stored.{total}
+use Rattle.strokes.specs.StateRead.{total}
 use Rattle.strokes.proofs.StoredStates.{rises-rising}
-use Rattle.sound.specs.SoundStand.{inTime, timesPass, rawRow, rawColumns, strokeColumns, strokesColumns}
+use Rattle.sound.specs.Code.SoundStand.{inTime, timesPass, rawRow, rawColumns, strokeColumns, strokesColumns}
 use Rattle.sound.proofs.SoundNames.{next-total}
 
 -- equal parts of two columns of one length

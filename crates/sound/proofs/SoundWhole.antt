@@ -10,24 +10,24 @@ use lib.IntN.{ℤ}
 use lib.Dec.{T, leb}
 use lib.Ieee.Fits.{and-i, and-l, and-r}
 use borrow.Author.Tests.{le-leb}
-use Rattle.bars.specs.declared.Bar.{Bar}
 use Rattle.bars.specs.Lists.{every, last}
 use Rattle.bars.specs.Questions.{isBar}
-use Rattle.stores.specs.Stores.{rawBars, mergedBars, mergedStore}
+use Rattle.stores.specs.Stores.{rawBars, mergedBars}
 use Rattle.stores.proofs.Columns.{raw-times, merged-length}
 use Rattle.stores.proofs.KeptBars.{map-take}
 use Rattle.strokes.specs.declared.Stand.{Stand}
-use Rattle.machine.specs.Soundness.{isMerged, rises, barTimes, mergedTimes, strokeRises, isStroke, isNamed, asked, inner, newestIn, fewerFractals, barsOf, countsFit, settingsSound, fewStrokes, rawPass, mergedPass, timesRise, strokesPass, elementsKept, newestLast, listsSound, soundBut, sound}
-use Rattle.strokes.specs.Stored.{Stores, strokesWith, storedFractals, settingsOf, stateOf, barCounts, fractalCounts, total, storesSized, countsSized, elementsSized, sized}
+use Rattle.machine.specs.Soundness.{isMerged, rises, barTimes, mergedTimes, strokeRises, isStroke, isNamed, asked, inner, newestIn, fewerFractals, countsFit, settingsSound, fewStrokes, rawPass, mergedPass, timesRise, strokesPass, elementsKept, newestLast, listsSound, soundBut, sound}
+use Rattle.strokes.specs.StateRead.{storedFractals, settingsOf, stateOf, barCounts, fractalCounts, total, storesSized, countsSized, elementsSized, sized}
+use Rattle.strokes.specs.Lent.{Stores}
 use Rattle.strokes.proofs.StoredStates.{kept-raw, kept-unfinished}
 use Rattle.strokes.proofs.StoredStrokes.{strokes-length}
-use Rattle.sound.specs.SoundStand.{smallCount, rawColumns, unfinishedColumns, frontColumns, strokesColumns, numbersPass, columnsSound}
-use Rattle.sound.specs.Question4.{question4, IsSound}
-use Rattle.sound.proofs.SoundScans.{and-false, pair, yes, same}
+use Rattle.sound.specs.Code.SoundStand.{smallCount, unfinishedColumns, frontColumns, strokesColumns, numbersPass, columnsSound}
+use Rattle.sound.specs.StandSound.{storesSound, IsSound}
+use Rattle.arith.proofs.Tests.{and-false, pair, yes, same}
 use Rattle.sound.proofs.SoundReads.{Rows, rows-of, merged-take}
 use Rattle.sound.proofs.SoundStrokes.{cut-lengths}
-use Rattle.sound.proofs.SoundFits.{Fit, fit, front-fit}
-use Rattle.sound.proofs.SoundFacts.{is-sound, clauses, sizes, numbers-sound, sound-fit, bars-are, counts-alike}
+use Rattle.sound.proofs.SoundFits.{Fit, fit}
+use Rattle.sound.proofs.SoundFacts.{stores-sound, clauses, sizes, numbers-sound, sound-fit, bars-are, counts-alike}
 use Rattle.sound.proofs.SoundFront.{raw-are, unfinished-are}
 use Rattle.sound.proofs.SoundMeans.{strokesAsked, strokes-are}
 
@@ -200,8 +200,8 @@ with-sizes true false settings p x y z h = refl
 with-sizes true true false p x y z h = sym (and-false x)
 with-sizes true true true p x y z h = h refl refl
 
-pub columns-are : (s : Stand) (m : Stores) → length (s .bars) ≡ 65 → length (s .fractals) ≡ 65 → columnsSound s m ≡ question4 s m
-unfolding columnsSound question4 sized sound soundBut numbersPass settingsOf
+pub columns-are : (s : Stand) (m : Stores) → length (s .bars) ≡ 65 → length (s .fractals) ≡ 65 → columnsSound s m ≡ storesSound s m
+unfolding columnsSound storesSound sized sound soundBut numbersPass settingsOf
 columns-are s m lb lf =
     with-sizes (storesSized s m) (countsSized s) (settingsSound (settingsOf s))
     (frontColumns (s .raw) (s .unfinished) (m .raw) (m .unfinished)
@@ -212,23 +212,23 @@ columns-are s m lb lf =
 
 -- ---- the answer at each return
 
-pub no-stores : (s : Stand) (m : Stores) → storesSized s m ≡ false → false ≡ question4 s m
-unfolding question4 sized
+pub no-stores : (s : Stand) (m : Stores) → storesSized s m ≡ false → false ≡ storesSound s m
+unfolding storesSound sized
 no-stores s m e = rw e
 
-pub no-numbers : (s : Stand) (m : Stores) → numbersPass s ≡ false → false ≡ question4 s m
-no-numbers s m e = same false (question4 s m) (λ w. absurd w) (λ k. subst T e (numbers-sound s m (is-sound s m (yes (question4 s m) k))))
+pub no-numbers : (s : Stand) (m : Stores) → numbersPass s ≡ false → false ≡ storesSound s m
+no-numbers s m e = same false (storesSound s m) (λ w. absurd w) (λ k. subst T e (numbers-sound s m (stores-sound s m (yes (storesSound s m) k))))
 
-pub no-front : (s : Stand) (m : Stores) → frontColumns (s .raw) (s .unfinished) (m .raw) (m .unfinished) ≡ false → false ≡ question4 s m
+pub no-front : (s : Stand) (m : Stores) → frontColumns (s .raw) (s .unfinished) (m .raw) (m .unfinished) ≡ false → false ≡ storesSound s m
 no-front s m e =
-    same false (question4 s m) (λ w. absurd w)
-    (λ k. let h = is-sound s m (yes (question4 s m) k) in subst T e (front-sound s m (sound-fit s m h) h))
+    same false (storesSound s m) (λ w. absurd w)
+    (λ k. let h = stores-sound s m (yes (storesSound s m) k) in subst T e (front-sound s m (sound-fit s m h) h))
 
 pub by-strokes : (s : Stand) (m : Stores) → length (s .bars) ≡ 65 → length (s .fractals) ≡ 65
     → storesSized s m ≡ true → numbersPass s ≡ true → frontColumns (s .raw) (s .unfinished) (m .raw) (m .unfinished) ≡ true
     → (r : Bool)
     → r ≡ (leb (s .strokes) (s .most) && strokesColumns (take (s .raw) (m .raw .times)) (take (s .strokes) (s .bars)) (take (s .strokes) (s .fractals)) (m .strokes .times) (m .strokes .prices) (m .strokes .counts) (m .strokes .elements) (m .fractals .stamps) (m .fractals .prices))
-    → r ≡ question4 s m
+    → r ≡ storesSound s m
 unfolding columnsSound barCounts fractalCounts
 by-strokes s m lb lf e g h r q = columns ∙ columns-are s m lb lf
   where

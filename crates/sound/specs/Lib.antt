@@ -1,4 +1,3 @@
 pub mod FreshStand
-pub mod SoundStand
-pub mod Question4
-pub mod NewestBar
+pub mod StandSound
+pub mod Code

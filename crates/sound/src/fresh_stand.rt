@@ -2,7 +2,7 @@
 ghost use mathlib.Core.Path.{_≡_};
 ghost use Rattle.sound.specs.FreshStand.{roomsFit, orDefault, freshFailed, emptyStand, freshOf};
 ghost use Rattle.machine.specs.Soundness.{isRoom};
-use super::soundness::both;
+use bars::both;
 use strokes::Rooms;
 use strokes::Stand;
 

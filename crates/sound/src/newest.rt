@@ -1,6 +1,6 @@
 // The clause of question 4 on the newest raw bar, alone. It reads the last place of each column only,
 // so that its cost is a constant.
-ghost use Rattle.sound.specs.NewestBar.{NewestRoom, NewestIs};
+ghost use Rattle.sound.specs.Code.NewestBar.{NewestRoom, NewestIs};
 use super::soundness::newest_named;
 use strokes::Stand;
 

@@ -10,20 +10,20 @@ ghost use lib.Signed.{ltZ};
 ghost use lib.Dec.{T, leb};
 ghost use lib.Ieee.{nan, le};
 ghost use Rattle.bars.specs.Lists.{every, last};
-ghost use Rattle.bars.specs.Questions.{isPrice, fromZero, isVolume};
-ghost use Rattle.stores.specs.Stores.{rawStore, mergedStore, rising, placeOf};
+ghost use Rattle.bars.specs.Questions.{isPrice};
+ghost use Rattle.stores.specs.Code.StoreRows.{rising, placeOf};
 ghost use Rattle.machine.specs.Soundness.{rises, sameTime, isSetting, endsOn};
-ghost use Rattle.strokes.specs.Stored.{storesSized, fractalStore, rawSized, mergedSized, fractalSized, total};
-ghost use Rattle.sound.specs.SoundStand.{inTime, timesPass, rawRow, mergedRow, smallCount, differ, topRow, alternating, isReal, endsHeld, middleTimes, fractalColumns, atPlace, isTime, namedRows, newestRow, numbersPass, rawColumns, unfinishedColumns, strokeColumns, strokesColumns, frontColumns, storesOf};
-ghost use Rattle.sound.specs.Question4.{question4};
+ghost use Rattle.strokes.specs.StateRead.{storesSized, rawSized, mergedSized, fractalSized, total};
+ghost use Rattle.strokes.specs.Lent.{fractalsBefore, before};
+ghost use Rattle.sound.specs.Code.SoundStand.{inTime, timesPass, rawRow, mergedRow, smallCount, differ, topRow, alternating, isReal, endsHeld, middleTimes, fractalColumns, atPlace, isTime, namedRows, newestRow, numbersPass, rawColumns, unfinishedColumns, strokeColumns, strokesColumns, frontColumns};
+ghost use Rattle.sound.specs.StandSound.{storesSound};
+ghost use Rattle.stores.specs.Lent.{rawBefore, mergedBefore};
 use super::fresh_stand::rooms_fit;
+use bars::both;
+use bars::from_zero;
+use bars::is_price;
+use bars::is_volume;
 use strokes::Stand;
-
-pub fn both(a: bool, b: bool) -> bool
-    ensures { λ r. ⌜ r ≡ (a && b) ⌝ }
-{
-    a & b
-}
 
 // ---- times
 
@@ -79,25 +79,6 @@ pub fn times_pass(ts: &[i64]) -> bool
 }
 
 // ---- rows of prices
-
-fn is_price(x: f64) -> bool
-    ensures { λ r. ⌜ r ≡ isPrice x ⌝ }
-{
-    both(0.00000095367431640625 <= x, x <= 1073741824.0)
-}
-
-// Zero or more, and no minus zero, whose reciprocal is below zero.
-fn from_zero(x: f64) -> bool
-    ensures { λ r. ⌜ r ≡ fromZero x ⌝ }
-{
-    both(0.0 <= x, 0.0 <= 1.0 / x)
-}
-
-fn is_volume(x: f64) -> bool
-    ensures { λ r. ⌜ r ≡ isVolume x ⌝ }
-{
-    both(from_zero(x), x <= 1125899906842624.0)
-}
 
 // Two prices, low at most high: high is not too small where low is not, and low not too large where
 // high is not.
@@ -457,7 +438,7 @@ fn total_fits(bars: [usize; 65], n: usize, room: usize) -> bool
 }
 
 fn raw_sized(n: usize, ts: &[i64], is: &[i32], ps: &[[f64; 6]]) -> bool
-    ensures { λ r. ⌜ r ≡ rawSized n (rawStore (now (ts .entry)) (now (is .entry)) (now (ps .entry))) ⌝ }
+    ensures { λ r. ⌜ r ≡ rawSized n (rawBefore ts is ps) ⌝ }
 {
     both(ts.len() == n, both(is.len() == n, ps.len() == n))
 }
@@ -470,13 +451,13 @@ fn merged_sized(
     cs: &[usize],
     es: &[[i64; 101]],
 ) -> bool
-    ensures { λ r. ⌜ r ≡ mergedSized n (mergedStore (now (ts .entry)) (now (is .entry)) (now (ps .entry)) (now (cs .entry)) (now (es .entry))) ⌝ }
+    ensures { λ r. ⌜ r ≡ mergedSized n (mergedBefore ts is ps cs es) ⌝ }
 {
     both(raw_sized(n, ts, is, ps), both(cs.len() == n, es.len() == n))
 }
 
 fn fractal_sized(n: usize, fs: &[[i64; 6]], fp: &[[f64; 18]]) -> bool
-    ensures { λ r. ⌜ r ≡ fractalSized n (fractalStore (now (fs .entry)) (now (fp .entry))) ⌝ }
+    ensures { λ r. ⌜ r ≡ fractalSized n (fractalsBefore fs fp) ⌝ }
 {
     both(fs.len() == n, fp.len() == n)
 }
@@ -642,7 +623,7 @@ fn front_pass(
     m: usize,
 ) -> bool
     requires { ⌜ (n ≤ length (now rt)) × (n ≤ length (now rp)) × (length (now rt) ≤ 65536) ⌝ ∗ ⌜ (m ≤ length (now ut)) × (m ≤ length (now up)) × (m ≤ length (now uc)) × (m ≤ length (now ue)) ⌝ }
-    ensures { λ r. ⌜ r ≡ frontColumns n m (rawStore (now (rt .entry)) (now (ri .entry)) (now (rp .entry))) (mergedStore (now (ut .entry)) (now (ui .entry)) (now (up .entry)) (now (uc .entry)) (now (ue .entry))) ⌝ }
+    ensures { λ r. ⌜ r ≡ frontColumns n m (rawBefore rt ri rp) (mergedBefore ut ui up uc ue) ⌝ }
 {
     if !raw_columns_pass(&rt[..n], &rp[..n]) {
         return false;
@@ -695,7 +676,7 @@ pub fn stores_sized(
     fs: &[[i64; 6]],
     fp: &[[f64; 18]],
 ) -> bool
-    ensures { λ r. ⌜ r ≡ storesSized stand (storesOf (rawStore (now (rt .entry)) (now (ri .entry)) (now (rp .entry))) (mergedStore (now (ut .entry)) (now (ui .entry)) (now (up .entry)) (now (uc .entry)) (now (ue .entry))) (mergedStore (now (st .entry)) (now (si .entry)) (now (sp .entry)) (now (sc .entry)) (now (se .entry))) (fractalStore (now (fs .entry)) (now (fp .entry)))) ⌝ }
+    ensures { λ r. ⌜ r ≡ storesSized stand (before rt ri rp ut ui up uc ue st si sp sc se fs fp) ⌝ }
 {
     let rooms = stand.rooms;
     let raw = rooms.raw;
@@ -713,8 +694,8 @@ pub fn stores_sized(
     )
 }
 
-// Question 4, for any stand and whatever the stores hold.
-pub fn is_sound(
+// Soundness of any stand, whatever the stores hold.
+pub fn stores_sound(
     stand: Stand,
     rt: &[i64],
     ri: &[i32],
@@ -732,7 +713,7 @@ pub fn is_sound(
     fs: &[[i64; 6]],
     fp: &[[f64; 18]],
 ) -> bool
-    ensures { λ r. ⌜ r ≡ question4 stand (storesOf (rawStore (now (rt .entry)) (now (ri .entry)) (now (rp .entry))) (mergedStore (now (ut .entry)) (now (ui .entry)) (now (up .entry)) (now (uc .entry)) (now (ue .entry))) (mergedStore (now (st .entry)) (now (si .entry)) (now (sp .entry)) (now (sc .entry)) (now (se .entry))) (fractalStore (now (fs .entry)) (now (fp .entry)))) ⌝ }
+    ensures { λ r. ⌜ r ≡ storesSound stand (before rt ri rp ut ui up uc ue st si sp sc se fs fp) ⌝ }
 {
     if !stores_sized(
         stand,

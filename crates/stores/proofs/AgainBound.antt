@@ -13,7 +13,8 @@ use Rattle.bars.specs.declared.Bar.{Bar}
 use Rattle.bars.specs.Bars.{Merged}
 use Rattle.bars.specs.Lists.{keepIf, last, init}
 use Rattle.bars.specs.Merging.{mergeAll, atTimes, again}
-use Rattle.stores.specs.Stores.{RawStore, SizedRaw, rawBars, rising}
+use Rattle.stores.specs.Stores.{RawStore, rawBars}
+use Rattle.stores.specs.Code.StoreRows.{SizedRaw, rising}
 use Rattle.stores.proofs.Searching.{at-most-one}
 use Rattle.stores.proofs.KeptBars.{kept-times}
 use Rattle.bars.proofs.MergedLists.{Grows, merge-run-grows}

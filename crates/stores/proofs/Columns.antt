@@ -13,8 +13,10 @@ use Rattle.bars.specs.declared.Bar.{Bar}
 use Rattle.bars.specs.declared.NewBar.{NewBar}
 use Rattle.bars.specs.Bars.{Merged, mergedOf, rowOf}
 use Rattle.bars.specs.Lists.{copied}
-use Rattle.stores.specs.Stores.{RawStore, MergedStore, mergedStore, rawPart, SizedRaw, SizedMerged, RoomRaw, RoomMerged, zipWith, barOf, mergedWith}
-use Rattle.stores.specs.Stores.{rawBars, mergedBars, barAt, newBarAt, setBar, setNewBar, copiedRaw, copiedMerged}
+use Rattle.stores.specs.Stores.{RawStore, MergedStore, mergedStore, rawPart, zipWith, barOf, withFirst}
+use Rattle.stores.specs.Code.StoreRows.{SizedRaw, SizedMerged, RoomRaw, RoomMerged}
+use Rattle.stores.specs.Stores.{rawBars, mergedBars}
+use Rattle.stores.specs.Code.StoreRows.{barAt, newBarAt, setBar, setNewBar, copiedRaw, copiedMerged}
 use Rattle.bars.proofs.Moves.{length-copied, take-copied}
 
 module _ {A B C : Type 0} (f : A → B → C) where
@@ -175,30 +177,30 @@ pub merged-length : (s : MergedStore) (n : ℕ) → SizedMerged s n → length (
 unfolding mergedBars
 merged-length s n h =
     let r = raw-length (rawPart s) n (h .raw) in
-    let e = zip-length mergedWith (rawBars (rawPart s)) (s .counts) (r ∙ sym (h .counts)) in
-    zip-length (λ f l. f l) (zipWith mergedWith (rawBars (rawPart s)) (s .counts)) (s .elements) (e ∙ r ∙ sym (h .elements)) ∙ e ∙ r
+    let e = zip-length withFirst (rawBars (rawPart s)) (s .counts) (r ∙ sym (h .counts)) in
+    zip-length (λ f l. f l) (zipWith withFirst (rawBars (rawPart s)) (s .counts)) (s .elements) (e ∙ r ∙ sym (h .elements)) ∙ e ∙ r
 
 pub merged-at : (s : MergedStore) (at : ℕ) (z : Merged) → RoomMerged s (at + 1) → getD (mergedBars s) at z ≡ mergedOf (newBarAt s at)
-unfolding mergedBars newBarAt mergedOf mergedWith
+unfolding mergedBars newBarAt mergedOf withFirst
 merged-at s at z h =
     let k : at < length (s .counts) = omega (arith, h .counts) in
     let e : at < length (s .elements) = omega (arith, h .elements) in
     let r : at < length (rawBars (rawPart s)) = raw-longer (rawPart s) at (h .raw) in
     let b = barAt (rawPart s) at in
-    zip-at (λ f l. f l) at (zipWith mergedWith (rawBars (rawPart s)) (s .counts)) (s .elements) (mergedWith b 0) [] z
-    (zip-longer mergedWith (rawBars (rawPart s)) (s .counts) at r k)
+    zip-at (λ f l. f l) at (zipWith withFirst (rawBars (rawPart s)) (s .counts)) (s .elements) (withFirst b 0) [] z
+    (zip-longer withFirst (rawBars (rawPart s)) (s .counts) at r k)
     e
-    ∙ ap (λ (f : List ℤ → Merged). f (getD (s .elements) at [])) (zip-at mergedWith at (rawBars (rawPart s)) (s .counts) b 0 (mergedWith b 0) r k)
-    ∙ ap (λ (x : Bar). mergedWith x (getD (s .counts) at 0) (getD (s .elements) at [])) (raw-at (rawPart s) at b (h .raw))
+    ∙ ap (λ (f : List ℤ → Merged). f (getD (s .elements) at [])) (zip-at withFirst at (rawBars (rawPart s)) (s .counts) b 0 (withFirst b 0) r k)
+    ∙ ap (λ (x : Bar). withFirst x (getD (s .counts) at 0) (getD (s .elements) at [])) (raw-at (rawPart s) at b (h .raw))
 
 pub merged-set : (s : MergedStore) (at : ℕ) (k : NewBar) → mergedBars (setNewBar s at k) ≡ set (mergedBars s) at (mergedOf k)
-unfolding mergedBars setNewBar mergedOf mergedWith
+unfolding mergedBars setNewBar mergedOf withFirst
 merged-set s at k =
-    ap (λ (l : List Bar). zipWith (λ f l. f l) (zipWith mergedWith l (set (s .counts) at (k .count))) (set (s .elements) at (k .elements)))
+    ap (λ (l : List Bar). zipWith (λ f l. f l) (zipWith withFirst l (set (s .counts) at (k .count))) (set (s .elements) at (k .elements)))
     (raw-set (rawPart s) at (k .bar))
     ∙ ap (λ (l : List (List ℤ → Merged)). zipWith (λ f l. f l) l (set (s .elements) at (k .elements)))
-    (zip-set mergedWith at (rawBars (rawPart s)) (s .counts) (k .bar) (k .count))
-    ∙ zip-set (λ f l. f l) at (zipWith mergedWith (rawBars (rawPart s)) (s .counts)) (s .elements) (mergedWith (k .bar) (k .count)) (k .elements)
+    (zip-set withFirst at (rawBars (rawPart s)) (s .counts) (k .bar) (k .count))
+    ∙ zip-set (λ f l. f l) at (zipWith withFirst (rawBars (rawPart s)) (s .counts)) (s .elements) (withFirst (k .bar) (k .count)) (k .elements)
 
 pub merged-copied : (d s : MergedStore) (at from n k m : ℕ) → SizedMerged d k → SizedMerged s m
     → mergedBars (copiedMerged d at s from n) ≡ copied (mergedBars d) at (mergedBars s) from n
@@ -206,13 +208,13 @@ unfolding mergedBars copiedMerged
 merged-copied d s at from n k m h g =
     let p = raw-length (rawPart d) k (h .raw) in
     let q = raw-length (rawPart s) m (g .raw) in
-    ap (λ (l : List Bar). zipWith (λ f l. f l) (zipWith mergedWith l (copied (d .counts) at (s .counts) from n)) (copied (d .elements) at (s .elements) from n))
+    ap (λ (l : List Bar). zipWith (λ f l. f l) (zipWith withFirst l (copied (d .counts) at (s .counts) from n)) (copied (d .elements) at (s .elements) from n))
     (raw-copied (rawPart d) (rawPart s) at from n k m (h .raw) (g .raw))
     ∙ ap (λ (l : List (List ℤ → Merged)). zipWith (λ f l. f l) l (copied (d .elements) at (s .elements) from n))
-    (zip-copied mergedWith (rawBars (rawPart d)) (rawBars (rawPart s)) (d .counts) (s .counts) at from n (p ∙ sym (h .counts)) (q ∙ sym (g .counts)))
-    ∙ zip-copied (λ f l. f l) (zipWith mergedWith (rawBars (rawPart d)) (d .counts)) (zipWith mergedWith (rawBars (rawPart s)) (s .counts)) (d .elements) (s .elements) at from n
-    (zip-length mergedWith (rawBars (rawPart d)) (d .counts) (p ∙ sym (h .counts)) ∙ p ∙ sym (h .elements))
-    (zip-length mergedWith (rawBars (rawPart s)) (s .counts) (q ∙ sym (g .counts)) ∙ q ∙ sym (g .elements))
+    (zip-copied withFirst (rawBars (rawPart d)) (rawBars (rawPart s)) (d .counts) (s .counts) at from n (p ∙ sym (h .counts)) (q ∙ sym (g .counts)))
+    ∙ zip-copied (λ f l. f l) (zipWith withFirst (rawBars (rawPart d)) (d .counts)) (zipWith withFirst (rawBars (rawPart s)) (s .counts)) (d .elements) (s .elements) at from n
+    (zip-length withFirst (rawBars (rawPart d)) (d .counts) (p ∙ sym (h .counts)) ∙ p ∙ sym (h .elements))
+    (zip-length withFirst (rawBars (rawPart s)) (s .counts) (q ∙ sym (g .counts)) ∙ q ∙ sym (g .elements))
 
 pub sized-merged-set : (s : MergedStore) (at n : ℕ) (k : NewBar) → SizedMerged s n → SizedMerged (setNewBar s at k) n
 unfolding setNewBar
@@ -263,7 +265,7 @@ unfolding rawBars
 raw-prices g r q s n h = zip-third barOf g r q (s .times) (s .ids) (s .prices) (h .times ∙ sym (h .ids)) (h .times ∙ sym (h .prices))
 
 pub merged-bars : (s : MergedStore) (n : ℕ) → SizedMerged s n → map (λ k. k .bar) (mergedBars s) ≡ rawBars (rawPart s)
-unfolding mergedBars mergedWith
+unfolding mergedBars withFirst
 merged-bars s n h =
     let r = raw-length (rawPart s) n (h .raw) in
-    zip-first mergedWith (λ k. k .bar) (λ b. b) (λ b n e. refl) (rawBars (rawPart s)) (s .counts) (s .elements) (r ∙ sym (h .counts)) (r ∙ sym (h .elements)) ∙ map-self (rawBars (rawPart s))
+    zip-first withFirst (λ k. k .bar) (λ b. b) (λ b n e. refl) (rawBars (rawPart s)) (s .counts) (s .elements) (r ∙ sym (h .counts)) (r ∙ sym (h .elements)) ∙ map-self (rawBars (rawPart s))

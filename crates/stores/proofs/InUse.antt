@@ -12,7 +12,8 @@ use lib.IntN.{ℤ, pos}
 use Rattle.bars.specs.declared.Bar.{Bar}
 use Rattle.bars.specs.Bars.{Merged}
 use Rattle.bars.specs.Lists.{copied}
-use Rattle.stores.specs.Stores.{RawStore, MergedStore, rawPart, SizedRaw, SizedMerged, zipWith, mergedWith, rawBars, mergedBars, inUse, MovedToStart}
+use Rattle.stores.specs.Stores.{RawStore, MergedStore, rawPart, zipWith, withFirst, rawBars, mergedBars}
+use Rattle.stores.specs.Code.StoreRows.{SizedRaw, SizedMerged, inUse, MovedToStart}
 use Rattle.bars.proofs.Moves.{length-copied, take-copied, copied-none, copy-turn, down-turn}
 use Rattle.stores.proofs.Columns.{zip-set, zip-at, zip-longer, zip-length, zip-copied, raw-length, raw-copied, sized-copied}
 
@@ -130,8 +131,8 @@ in-use-turn cs₀ cs es₀ es es' from i c e hc he lc le ec et es'-is =
 withElements : Bar → List ℤ → Merged
 withElements b e = record { bar = b; elements = e }
 
-zip-in-use : (l : List Bar) (cs : List ℕ) (es : List (List ℤ)) → zipWith (λ f e. f e) (zipWith mergedWith l cs) es ≡ zipWith withElements l (zipWith take cs es)
-unfolding zipWith mergedWith withElements
+zip-in-use : (l : List Bar) (cs : List ℕ) (es : List (List ℤ)) → zipWith (λ f e. f e) (zipWith withFirst l cs) es ≡ zipWith withElements l (zipWith take cs es)
+unfolding zipWith withFirst withElements
 zip-in-use [] cs es = refl
 zip-in-use (b ∷ l) [] es = refl
 zip-in-use (b ∷ l) (c ∷ cs) [] = refl

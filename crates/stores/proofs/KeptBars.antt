@@ -11,7 +11,8 @@ use lib.Dec.{T}
 use lib.Signed.{ltZ, leZ}
 use Rattle.bars.specs.declared.Bar.{Bar}
 use Rattle.bars.specs.Lists.{keepIf, skipWhile}
-use Rattle.stores.specs.Stores.{RawStore, SizedRaw, RoomRaw, rawBars, barAt, rising, placeOf}
+use Rattle.stores.specs.Stores.{RawStore, rawBars}
+use Rattle.stores.specs.Code.StoreRows.{SizedRaw, RoomRaw, barAt, rising, placeOf}
 use Rattle.stores.proofs.Columns.{raw-times, raw-length, raw-at}
 use Rattle.stores.proofs.Searching.{place-at, place-skip, named, nameless}
 

@@ -11,37 +11,19 @@ use lib.IntN.{ℤ, pos, negsuc}
 use lib.Dec.{T, ltb→lt, leb→le, le→leb}
 use lib.Signed.{ltZ, leZ, ltZ-yes, leZ-yes, ltZ-no, <ℤ-≤ℤ-trans, ≤ℤ-refl, clashℤ}
 use lib.Ieee.Fits.{and-i, and-l, and-r}
+use Rattle.arith.proofs.Tests.{yes, holds, no}
 use Rattle.bars.specs.Lists.{keepIf, skipWhile}
-use Rattle.stores.specs.Stores.{rising, nextIf, placeOf}
+use Rattle.bars.proofs.Times.{lt-le, le-refl, lt-trans, le-not-lt, lt-not-le, le-antisym}
+use Rattle.stores.specs.Code.StoreRows.{rising, nextIf, placeOf}
 
 -- ---- tests of times
 
-yes : (b : Bool) → T b → b ≡ true
-yes true h = refl
-yes false h = absurd h
-
-holds : {b : Bool} → b ≡ true → T b
-holds e = subst T (sym e) tt
-
-no : (b : Bool) → (T b → ⊥) → b ≡ false
-no true h = absurd (h tt)
-no false h = refl
-
-before-le : (a b : ℤ) → T (ltZ a b) → T (leZ a b)
-before-le (pos a) (pos b) h = le→leb a b (le-of-lt (ltb→lt a b h))
-before-le (pos a) (negsuc b) h = h
-before-le (negsuc a) (pos b) h = tt
-before-le (negsuc a) (negsuc b) h = le→leb b a (le-of-lt (ltb→lt b a h))
-
-before-trans : (a b c : ℤ) → T (ltZ a b) → T (ltZ b c) → T (ltZ a c)
-before-trans a b c h k = (<ℤ-≤ℤ-trans {a = a} {b = b} {c = c} (ltZ-yes h) (leZ-yes (before-le b c k))) .lt
-
 -- of two times one of which is before the other, neither is the other, and the other is not before it
 not-back : (a b : ℤ) → T (ltZ a b) → leZ b a ≡ false
-not-back a b h = no (leZ b a) (λ k. clashℤ {a = a} {b = b} (ltZ-yes h) (leZ-yes k))
+not-back a b h = no (leZ b a) (lt-not-le b a h)
 
 not-before : (a : ℤ) → ltZ a a ≡ false
-not-before a = no (ltZ a a) (λ k. clashℤ {a = a} {b = a} (ltZ-yes k) (≤ℤ-refl a))
+not-before a = no (ltZ a a) (le-not-lt a a (le-refl a))
 
 -- ---- times that rise
 
@@ -55,7 +37,7 @@ unfolding rising
 rising-head a [] i h k = let w : ⊥ = omega arith in absurd w
 rising-head a (b ∷ l) zero h k = and-l (ltZ a b) (rising (b ∷ l)) h
 rising-head a (b ∷ l) (suc i) h k =
-    before-trans a b (getD l i (pos 0)) (and-l (ltZ a b) (rising (b ∷ l)) h) (rising-head b l i (and-r (ltZ a b) (rising (b ∷ l)) h) (omega arith))
+    lt-trans a b (getD l i (pos 0)) (and-l (ltZ a b) (rising (b ∷ l)) h) (rising-head b l i (and-r (ltZ a b) (rising (b ∷ l)) h) (omega arith))
 
 -- ---- the place of a time
 
@@ -75,7 +57,7 @@ unfolding placeOf nextIf
 place-past t [] i r k e = let w : ⊥ = omega arith in absurd w
 place-past t (a ∷ l) zero r k e = rw e (omega arith)
 place-past t (a ∷ l) (suc i) r k e =
-    let h : ltZ a t ≡ true = yes (ltZ a t) (before-trans a (getD l i (pos 0)) t (rising-head a l i r (omega arith)) (holds e)) in
+    let h : ltZ a t ≡ true = yes (ltZ a t) (lt-trans a (getD l i (pos 0)) t (rising-head a l i r (omega arith)) (holds e)) in
     let g : i < placeOf t l = place-past t l i (rising-tail a l r) (omega arith) e in
     rw h (omega arith)
 
@@ -103,26 +85,20 @@ place-upto-in t l n i x h k q e = place-upto t (take n l) i (rw (length-take-le 
 
 -- ---- rows that have times
 
-same : (a b : ℤ) → T (leZ a b) → T (leZ b a) → a ≡ b
-same (pos a) (pos b) h k = ap pos (le-antisymm (leb→le a b h) (leb→le b a k))
-same (pos a) (negsuc b) h k = absurd h
-same (negsuc a) (pos b) h k = absurd k
-same (negsuc a) (negsuc b) h k = ap negsuc (le-antisymm (leb→le a b k) (leb→le b a h))
-
 -- a time that is not before t and is not t is after it
 after : (a t : ℤ) → ltZ a t ≡ false → (a ≡ t → ⊥) → T (ltZ t a)
 after a t e d = by (ltZ t a) refl
   where
     by : (b : Bool) → ltZ t a ≡ b → T b
     by true q = tt
-    by false q = d (same a t ((ltZ-no {a = t} {b = a} (subst (λ (b : Bool). T (not b)) (sym q) tt)) .le) ((ltZ-no {a = a} {b = t} (subst (λ (b : Bool). T (not b)) (sym e) tt)) .le))
+    by false q = d (le-antisym a t ((ltZ-no {a = t} {b = a} (subst (λ (b : Bool). T (not b)) (sym q) tt)) .le) ((ltZ-no {a = a} {b = t} (subst (λ (b : Bool). T (not b)) (sym e) tt)) .le))
 
 rising-past : (a b : ℤ) (l : List ℤ) → T (rising (a ∷ b ∷ l)) → T (rising (a ∷ l))
 unfolding rising
 rising-past a b [] h = tt
 rising-past a b (c ∷ l) h =
     let k = and-r (ltZ a b) (rising (b ∷ c ∷ l)) h in
-    and-i (ltZ a c) (rising (c ∷ l)) (before-trans a b c (and-l (ltZ a b) (rising (b ∷ c ∷ l)) h) (and-l (ltZ b c) (rising (c ∷ l)) k)) (and-r (ltZ b c) (rising (c ∷ l)) k)
+    and-i (ltZ a c) (rising (c ∷ l)) (lt-trans a b c (and-l (ltZ a b) (rising (b ∷ c ∷ l)) h) (and-l (ltZ b c) (rising (c ∷ l)) k)) (and-r (ltZ b c) (rising (c ∷ l)) k)
 
 module _ {A : Type 0} (f : A → ℤ) where
   skip-by : (t : ℤ) (a : A) (l : List A) (b : Bool) → skipWhile (λ x. ltZ (f x) t) l ≡ drop (placeOf t (map f l)) l
@@ -148,7 +124,7 @@ module _ {A : Type 0} (f : A → ℤ) where
 
   earlier : (t : ℤ) (a : A) (l : List A) → T (ltZ (f a) t) → keepIf (timed t) (a ∷ l) ≡ keepIf (timed t) l
   unfolding keepIf
-  earlier t a l h = rw (yes (leZ (f a) t) (before-le (f a) t h), not-back (f a) t h)
+  earlier t a l h = rw (yes (leZ (f a) t) (lt-le (f a) t h), not-back (f a) t h)
 
   map-at : (l : List A) (i : ℕ) (z : A) → i < length l → getD (map f l) i (pos 0) ≡ f (getD l i z)
   map-at [] i z k = let w : ⊥ = omega arith in absurd w
@@ -191,6 +167,6 @@ module _ {A : Type 0} (f : A → ℤ) where
   at-most-one t (a ∷ l) r =
       kept-by (timed t a) a (keepIf (timed t) l)
       (λ e. let h = holds e in
-      let q : f a ≡ t = same (f a) t (and-l (leZ (f a) t) (leZ t (f a)) h) (and-r (leZ (f a) t) (leZ t (f a)) h) in
+      let q : f a ≡ t = le-antisym (f a) t (and-l (leZ (f a) t) (leZ t (f a)) h) (and-r (leZ (f a) t) (leZ t (f a)) h) in
       subst (λ (u : ℤ). keepIf (timed u) l ≡ []) q (later (f a) l r))
       (at-most-one t l (rising-tail (f a) (map f l) r))

@@ -9,8 +9,9 @@ use lib.ListN.{length, take, getD}
 use lib.Seq.{take-suc, append-snoc}
 use lib.Ieee.{Float}
 use Rattle.bars.specs.declared.Bar.{Bar}
-use Rattle.stores.specs.Stores.{RawStore, SizedRaw, RoomRaw, rawBars, barAt, setBar}
-use Rattle.bars.specs.MergedBars.{removeIncludeBar, mergeBars, inPlaceOf, behind}
+use Rattle.stores.specs.Stores.{RawStore, rawBars}
+use Rattle.stores.specs.Code.StoreRows.{SizedRaw, RoomRaw, barAt, setBar}
+use Rattle.bars.specs.Code.MergedBars.{removeIncludeBar, mergeBars, inPlaceOf, behind}
 use Rattle.stores.proofs.Columns.{raw-length, raw-at, raw-appended}
 use Rattle.bars.proofs.MergedLists.{merge-local}
 

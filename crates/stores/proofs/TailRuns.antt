@@ -8,11 +8,12 @@ use native.Mathlib.Omega.{arith}
 use lib.ListN.{length, take, drop, getD, length-drop}
 use lib.Seq.{take-suc, getD-drop, drop-drop, drop-set-lt}
 use Rattle.bars.specs.declared.Bar.{Bar}
-use Rattle.bars.specs.Lists.{foldl}
+use Rattle.bars.specs.Lists.{foldLeft}
 use Rattle.bars.specs.Bars.{rowOf}
-use Rattle.stores.specs.Stores.{RawStore, rawStore, RoomRaw, rawBars, barAt, setBar}
-use Rattle.bars.specs.MergedBars.{mergeBars, mergeBarsAll, behind}
-use Rattle.stores.specs.TailRows.{rowsFrom, TailHas}
+use Rattle.stores.specs.Stores.{RawStore, rawStore, rawBars}
+use Rattle.stores.specs.Code.StoreRows.{RoomRaw, barAt, setBar}
+use Rattle.bars.specs.Code.MergedBars.{mergeBars, mergeBarsAll, behind}
+use Rattle.stores.specs.Code.TailRows.{rowsFrom, TailHas}
 use Rattle.stores.proofs.Columns.{raw-at, raw-longer}
 
 -- a row written before place r
@@ -31,8 +32,8 @@ later-rows s t r q h e =
     λ x. (λ i. rawStore (drop-drop (q - r) r (x .times) i) (drop-drop (q - r) r (x .ids) i) (drop-drop (q - r) r (x .prices) i)) ∙ ap (λ (j : ℕ). rowsFrom j x) g in
     sym (on t) ∙ ap (rowsFrom (q - r)) e ∙ on s
 
-fold-last : {A B : Type 0} (f : B → A → B) (b : B) (l : List A) (a : A) → foldl f b (l ++ a ∷ []) ≡ f (foldl f b l) a
-unfolding foldl
+fold-last : {A B : Type 0} (f : B → A → B) (b : B) (l : List A) (a : A) → foldLeft f b (l ++ a ∷ []) ≡ f (foldLeft f b l) a
+unfolding foldLeft
 fold-last f b [] a = refl
 fold-last f b (x ∷ l) a = fold-last f (f b x) l a
 
@@ -43,7 +44,7 @@ module _ (any : Bool) (k : Bar) (s raw : RawStore) (m a : ℕ) where
 
   -- none yet
   pub run-first : TailHas any k s m 0 s m (runMerged 0)
-  unfolding mergeBarsAll foldl
+  unfolding mergeBarsAll foldLeft
   run-first = record { bars = refl; least = omega arith; most = omega arith; beyond = refl }
 
   -- and one more
@@ -60,7 +61,7 @@ module _ (any : Bool) (k : Bar) (s raw : RawStore) (m a : ℕ) where
       let run : take (i + 1) (drop a R) ≡ take i (drop a R) ++ b ∷ [] =
       ap (λ (j : ℕ). take j (drop a R)) (add-one i) ∙ take-suc (drop a R) i b inside ∙ ap (λ (x : Bar). take i (drop a R) ++ x ∷ []) bar in
       record {
-        bars = g .bars ∙ ap (λ (x : List Bar). mergeBars x b) (h .bars) ∙ sym (ap (foldl mergeBars l) run ∙ fold-last mergeBars l (take i (drop a R)) b);
+        bars = g .bars ∙ ap (λ (x : List Bar). mergeBars x b) (h .bars) ∙ sym (ap (foldLeft mergeBars l) run ∙ fold-last mergeBars l (take i (drop a R)) b);
         least = omega (arith, h .least, g .least);
         most = omega (arith, h .most, g .most);
         beyond = g .beyond ∙ later-rows s t r q (g .least) (h .beyond);

@@ -1,3 +1,3 @@
 pub mod Stores
-pub mod TailRows
-pub mod StoreCases
+pub mod Lent
+pub mod Code

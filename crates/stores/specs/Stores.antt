@@ -1,17 +1,12 @@
 -- The lent stores of raw bars and of merged bars, column by column, and the bars that they hold. A place is a row: what stands at it in every column.
 -- Definitions only.
-use Prim.Native.Nat.{ℕ, suc, _≤_}
-use mathlib.Core.Bool.{Bool, true, false, _&&_}
+use Prim.Native.Nat.{ℕ}
 use mathlib.Core.List.{List, [], _∷_}
-use mathlib.Core.Path.{_≡_}
-use lib.ListN.{length, take, getD, set}
-use lib.IntN.{ℤ, pos}
-use lib.Signed.{ltZ}
+use lib.ListN.{take, getD}
+use lib.IntN.{ℤ}
 use lib.Ieee.{Float, nan}
 use Rattle.bars.specs.declared.Bar.{Bar}
-use Rattle.bars.specs.declared.NewBar.{NewBar}
-use Rattle.bars.specs.Bars.{Merged, rowOf}
-use Rattle.bars.specs.Lists.{copied}
+use Rattle.bars.specs.Bars.{Merged}
 
 -- ---- the columns
 
@@ -39,28 +34,6 @@ mergedStore ts is ps cs es = record { times = ts; ids = is; prices = ps; counts 
 abbrev pub rawPart : MergedStore → RawStore
 rawPart s = rawStore (s .times) (s .ids) (s .prices)
 
--- every column has n places
-pub record SizedRaw (s : RawStore) (n : ℕ) : Type 0 where
-  pub times : length (s .times) ≡ n
-  pub ids : length (s .ids) ≡ n
-  pub prices : length (s .prices) ≡ n
-
-pub record SizedMerged (s : MergedStore) (n : ℕ) : Type 0 where
-  pub raw : SizedRaw (rawPart s) n
-  pub counts : length (s .counts) ≡ n
-  pub elements : length (s .elements) ≡ n
-
--- every column has at least n places
-pub record RoomRaw (s : RawStore) (n : ℕ) : Type 0 where
-  pub times : n ≤ length (s .times)
-  pub ids : n ≤ length (s .ids)
-  pub prices : n ≤ length (s .prices)
-
-pub record RoomMerged (s : MergedStore) (n : ℕ) : Type 0 where
-  pub raw : RoomRaw (rawPart s) n
-  pub counts : n ≤ length (s .counts)
-  pub elements : n ≤ length (s .elements)
-
 -- ---- the bars
 
 -- f of the two rows at each place of two columns
@@ -84,8 +57,8 @@ barOf t i p =
     }
 
 -- the merged bar with the first n elements of a row
-unfoldable pub mergedWith : Bar → ℕ → List ℤ → Merged
-mergedWith b n e = record { bar = b; elements = take n e }
+unfoldable pub withFirst : Bar → ℕ → List ℤ → Merged
+withFirst b n e = record { bar = b; elements = take n e }
 
 -- the bars at all places, from place 0 on
 unfoldable pub rawBars : RawStore → List Bar
@@ -93,70 +66,5 @@ unfolding zipWith barOf
 rawBars s = zipWith (λ f p. f p) (zipWith barOf (s .times) (s .ids)) (s .prices)
 
 unfoldable pub mergedBars : MergedStore → List Merged
-unfolding zipWith mergedWith rawBars
-mergedBars s = zipWith (λ f e. f e) (zipWith mergedWith (rawBars (rawPart s)) (s .counts)) (s .elements)
-
--- of each row of elements, its first `count`
-unfoldable pub inUse : List ℕ → List (List ℤ) → List (List ℤ)
-unfolding zipWith
-inUse cs es = zipWith take cs es
-
--- the bar at a place
-unfoldable pub barAt : RawStore → ℕ → Bar
-unfolding barOf
-barAt s at = barOf (getD (s .times) at (pos 0)) (getD (s .ids) at (pos 0)) (getD (s .prices) at [])
-
-unfoldable pub newBarAt : MergedStore → ℕ → NewBar
-unfolding barAt
-newBarAt s at = record { bar = barAt (rawPart s) at; count = getD (s .counts) at 0; elements = getD (s .elements) at [] }
-
--- ---- writing
-
--- the store with this bar at a place
-unfoldable pub setBar : RawStore → ℕ → Bar → RawStore
-unfolding rowOf
-setBar s at b = rawStore (set (s .times) at (b .time)) (set (s .ids) at (b .id)) (set (s .prices) at (rowOf b))
-
-unfoldable pub setNewBar : MergedStore → ℕ → NewBar → MergedStore
-unfolding setBar
-setNewBar s at k =
-    let r = setBar (rawPart s) at (k .bar) in
-    mergedStore (r .times) (r .ids) (r .prices) (set (s .counts) at (k .count)) (set (s .elements) at (k .elements))
-
--- `copied` in every column
-unfoldable pub copiedRaw : RawStore → ℕ → RawStore → ℕ → ℕ → RawStore
-unfolding copied
-copiedRaw d at s from n =
-    rawStore (copied (d .times) at (s .times) from n) (copied (d .ids) at (s .ids) from n) (copied (d .prices) at (s .prices) from n)
-
-unfoldable pub copiedMerged : MergedStore → ℕ → MergedStore → ℕ → ℕ → MergedStore
-unfolding copied copiedRaw
-copiedMerged d at s from n =
-    let r = copiedRaw (rawPart d) at (rawPart s) from n in
-    mergedStore (r .times) (r .ids) (r .prices) (copied (d .counts) at (s .counts) from n) (copied (d .elements) at (s .elements) from n)
-
--- w is the store m with its n bars from place `from` on copied to the beginning, of the elements what is in use. The places of a row beyond its count are
--- free (document 01): nothing is said of them.
-pub record MovedToStart (m : MergedStore) (from n : ℕ) (w : MergedStore) : Type 0 where
-  pub raw : rawPart w ≡ copiedRaw (rawPart m) 0 (rawPart m) from n
-  pub counts : w .counts ≡ copied (m .counts) 0 (m .counts) from n
-  pub elements : inUse (w .counts) (w .elements) ≡ copied (inUse (m .counts) (m .elements)) 0 (inUse (m .counts) (m .elements)) from n
-  pub rows : length (w .elements) ≡ length (m .elements)
-
--- ---- searching
-
--- times rise strictly
-unfoldable pub rising : List ℤ → Bool
-rising [] = true
-rising (a ∷ []) = true
-rising (a ∷ b ∷ l) = ltZ a b && rising (b ∷ l)
-
-unfoldable pub nextIf : Bool → ℕ → ℕ
-nextIf true i = suc i
-nextIf false i = 0
-
--- the first place whose time is not before t, the length where there is none
-unfoldable pub placeOf : ℤ → List ℤ → ℕ
-unfolding nextIf
-placeOf t [] = 0
-placeOf t (a ∷ l) = nextIf (ltZ a t) (placeOf t l)
+unfolding zipWith withFirst rawBars
+mergedBars s = zipWith (λ f e. f e) (zipWith withFirst (rawBars (rawPart s)) (s .counts)) (s .elements)

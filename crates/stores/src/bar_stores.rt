@@ -5,7 +5,8 @@ ghost use mathlib.Core.Path.{_≡_};
 ghost use Prim.Native.Nat.{_+_, _≤_};
 ghost use lib.ListN.{length, take};
 ghost use lib.Dec.{T};
-ghost use Rattle.stores.specs.Stores.{rawStore, mergedStore, RoomRaw, RoomMerged, barAt, newBarAt, setBar, setNewBar, copiedRaw, copiedMerged, MovedToStart, rising, placeOf};
+ghost use Rattle.stores.specs.Code.StoreRows.{RoomRaw, RoomMerged, barAt, newBarAt, setBar, setNewBar, copiedRaw, copiedMerged, MovedToStart, rising, placeOf};
+ghost use Rattle.stores.specs.Lent.{rawHeld, rawBefore, rawAfter, mergedHeld, mergedBefore, mergedAfter};
 use super::rows;
 use bars::Bar;
 use bars::NewBar;
@@ -13,8 +14,8 @@ use bars::NewBar;
 // ---- one bar
 
 pub fn read_bar(times: &[i64], ids: &[i32], prices: &[[f64; 6]], at: usize) -> Bar
-    requires { ⌜ RoomRaw (rawStore (now times) (now ids) (now prices)) (at + 1) ⌝ }
-    ensures { λ r. ⌜ r ≡ barAt (rawStore (now (times .entry)) (now (ids .entry)) (now (prices .entry))) at ⌝ }
+    requires { ⌜ RoomRaw (rawHeld times ids prices) (at + 1) ⌝ }
+    ensures { λ r. ⌜ r ≡ barAt (rawBefore times ids prices) at ⌝ }
 {
     let time = times[at];
     let id = ids[at];
@@ -33,8 +34,8 @@ pub fn read_bar(times: &[i64], ids: &[i32], prices: &[[f64; 6]], at: usize) -> B
 
 // A bar is appended to the first n by writing it at place n.
 pub fn write_bar(times: &mut [i64], ids: &mut [i32], prices: &mut [[f64; 6]], at: usize, b: Bar)
-    requires { ⌜ RoomRaw (rawStore (now times) (now ids) (now prices)) (at + 1) ⌝ }
-    ensures { λ _. ⌜ rawStore (now (times .exit)) (now (ids .exit)) (now (prices .exit)) ≡ setBar (rawStore (now (times .entry)) (now (ids .entry)) (now (prices .entry))) at b ⌝ }
+    requires { ⌜ RoomRaw (rawHeld times ids prices) (at + 1) ⌝ }
+    ensures { λ _. ⌜ rawAfter times ids prices ≡ setBar (rawBefore times ids prices) at b ⌝ }
 {
     let time = b.time;
     let id = b.id;
@@ -51,8 +52,8 @@ pub fn read_new_bar(
     elements: &[[i64; 101]],
     at: usize,
 ) -> NewBar
-    requires { ⌜ RoomMerged (mergedStore (now times) (now ids) (now prices) (now counts) (now elements)) (at + 1) ⌝ }
-    ensures { λ r. ⌜ r ≡ newBarAt (mergedStore (now (times .entry)) (now (ids .entry)) (now (prices .entry)) (now (counts .entry)) (now (elements .entry))) at ⌝ }
+    requires { ⌜ RoomMerged (mergedHeld times ids prices counts elements) (at + 1) ⌝ }
+    ensures { λ r. ⌜ r ≡ newBarAt (mergedBefore times ids prices counts elements) at ⌝ }
 {
     let bar = read_bar(times, ids, prices, at);
     let count = counts[at];
@@ -73,8 +74,8 @@ pub fn write_new_bar(
     at: usize,
     k: NewBar,
 )
-    requires { ⌜ RoomMerged (mergedStore (now times) (now ids) (now prices) (now counts) (now elements)) (at + 1) ⌝ }
-    ensures { λ _. ⌜ mergedStore (now (times .exit)) (now (ids .exit)) (now (prices .exit)) (now (counts .exit)) (now (elements .exit)) ≡ setNewBar (mergedStore (now (times .entry)) (now (ids .entry)) (now (prices .entry)) (now (counts .entry)) (now (elements .entry))) at k ⌝ }
+    requires { ⌜ RoomMerged (mergedHeld times ids prices counts elements) (at + 1) ⌝ }
+    ensures { λ _. ⌜ mergedAfter times ids prices counts elements ≡ setNewBar (mergedBefore times ids prices counts elements) at k ⌝ }
 {
     let b = k.bar;
     let count = k.count;
@@ -85,24 +86,6 @@ pub fn write_new_bar(
 }
 
 // ---- runs of bars. In a copy from one store to another, ts, is, ps, cs, es are the columns of the other.
-
-// The first n bars of another store to the beginning of this one.
-pub fn copy_bars(
-    ts: &[i64],
-    is: &[i32],
-    ps: &[[f64; 6]],
-    times: &mut [i64],
-    ids: &mut [i32],
-    prices: &mut [[f64; 6]],
-    n: usize,
-)
-    requires { ⌜ RoomRaw (rawStore (now ts) (now is) (now ps)) n ⌝ ∗ ⌜ RoomRaw (rawStore (now times) (now ids) (now prices)) n ⌝ }
-    ensures { λ _. ⌜ rawStore (now (times .exit)) (now (ids .exit)) (now (prices .exit)) ≡ copiedRaw (rawStore (now (times .entry)) (now (ids .entry)) (now (prices .entry))) 0 (rawStore (now (ts .entry)) (now (is .entry)) (now (ps .entry))) 0 n ⌝ }
-{
-    rows::copy_times(ts, times, n);
-    rows::copy_ids(is, ids, n);
-    rows::copy_prices(ps, prices, n);
-}
 
 // n bars of another store, from place `from` on, into the part of this store that begins at the joining
 // place `at`: in each column that part is lent to the copier.
@@ -117,8 +100,8 @@ pub fn join_bars(
     at: usize,
     n: usize,
 )
-    requires { ⌜ RoomRaw (rawStore (now ts) (now is) (now ps)) (from + n) ⌝ ∗ ⌜ RoomRaw (rawStore (now times) (now ids) (now prices)) (at + n) ⌝ }
-    ensures { λ _. ⌜ rawStore (now (times .exit)) (now (ids .exit)) (now (prices .exit)) ≡ copiedRaw (rawStore (now (times .entry)) (now (ids .entry)) (now (prices .entry))) at (rawStore (now (ts .entry)) (now (is .entry)) (now (ps .entry))) from n ⌝ }
+    requires { ⌜ RoomRaw (rawHeld ts is ps) (from + n) ⌝ ∗ ⌜ RoomRaw (rawHeld times ids prices) (at + n) ⌝ }
+    ensures { λ _. ⌜ rawAfter times ids prices ≡ copiedRaw (rawBefore times ids prices) at (rawBefore ts is ps) from n ⌝ }
 {
     rows::join_times(ts, from, times, at, n);
     rows::join_ids(is, from, ids, at, n);
@@ -134,8 +117,8 @@ pub fn move_bars_down(
     at: usize,
     n: usize,
 )
-    requires { ⌜ at ≤ from ⌝ ∗ ⌜ RoomRaw (rawStore (now times) (now ids) (now prices)) (from + n) ⌝ }
-    ensures { λ _. ⌜ rawStore (now (times .exit)) (now (ids .exit)) (now (prices .exit)) ≡ copiedRaw (rawStore (now (times .entry)) (now (ids .entry)) (now (prices .entry))) at (rawStore (now (times .entry)) (now (ids .entry)) (now (prices .entry))) from n ⌝ }
+    requires { ⌜ at ≤ from ⌝ ∗ ⌜ RoomRaw (rawHeld times ids prices) (from + n) ⌝ }
+    ensures { λ _. ⌜ rawAfter times ids prices ≡ copiedRaw (rawBefore times ids prices) at (rawBefore times ids prices) from n ⌝ }
 {
     rows::down_times(times, from, at, n);
     rows::down_ids(ids, from, at, n);
@@ -151,33 +134,12 @@ pub fn move_bars_up(
     at: usize,
     n: usize,
 )
-    requires { ⌜ from ≤ at ⌝ ∗ ⌜ RoomRaw (rawStore (now times) (now ids) (now prices)) (at + n) ⌝ }
-    ensures { λ _. ⌜ rawStore (now (times .exit)) (now (ids .exit)) (now (prices .exit)) ≡ copiedRaw (rawStore (now (times .entry)) (now (ids .entry)) (now (prices .entry))) at (rawStore (now (times .entry)) (now (ids .entry)) (now (prices .entry))) from n ⌝ }
+    requires { ⌜ from ≤ at ⌝ ∗ ⌜ RoomRaw (rawHeld times ids prices) (at + n) ⌝ }
+    ensures { λ _. ⌜ rawAfter times ids prices ≡ copiedRaw (rawBefore times ids prices) at (rawBefore times ids prices) from n ⌝ }
 {
     rows::up_times(times, from, at, n);
     rows::up_ids(ids, from, at, n);
     rows::up_prices(prices, from, at, n);
-}
-
-pub fn copy_new_bars(
-    ts: &[i64],
-    is: &[i32],
-    ps: &[[f64; 6]],
-    cs: &[usize],
-    es: &[[i64; 101]],
-    times: &mut [i64],
-    ids: &mut [i32],
-    prices: &mut [[f64; 6]],
-    counts: &mut [usize],
-    elements: &mut [[i64; 101]],
-    n: usize,
-)
-    requires { ⌜ RoomMerged (mergedStore (now ts) (now is) (now ps) (now cs) (now es)) n ⌝ ∗ ⌜ RoomMerged (mergedStore (now times) (now ids) (now prices) (now counts) (now elements)) n ⌝ }
-    ensures { λ _. ⌜ mergedStore (now (times .exit)) (now (ids .exit)) (now (prices .exit)) (now (counts .exit)) (now (elements .exit)) ≡ copiedMerged (mergedStore (now (times .entry)) (now (ids .entry)) (now (prices .entry)) (now (counts .entry)) (now (elements .entry))) 0 (mergedStore (now (ts .entry)) (now (is .entry)) (now (ps .entry)) (now (cs .entry)) (now (es .entry))) 0 n ⌝ }
-{
-    copy_bars(ts, is, ps, times, ids, prices, n);
-    rows::copy_counts(cs, counts, n);
-    rows::copy_elements(es, elements, n);
 }
 
 pub fn join_new_bars(
@@ -195,8 +157,8 @@ pub fn join_new_bars(
     at: usize,
     n: usize,
 )
-    requires { ⌜ RoomMerged (mergedStore (now ts) (now is) (now ps) (now cs) (now es)) (from + n) ⌝ ∗ ⌜ RoomMerged (mergedStore (now times) (now ids) (now prices) (now counts) (now elements)) (at + n) ⌝ }
-    ensures { λ _. ⌜ mergedStore (now (times .exit)) (now (ids .exit)) (now (prices .exit)) (now (counts .exit)) (now (elements .exit)) ≡ copiedMerged (mergedStore (now (times .entry)) (now (ids .entry)) (now (prices .entry)) (now (counts .entry)) (now (elements .entry))) at (mergedStore (now (ts .entry)) (now (is .entry)) (now (ps .entry)) (now (cs .entry)) (now (es .entry))) from n ⌝ }
+    requires { ⌜ RoomMerged (mergedHeld ts is ps cs es) (from + n) ⌝ ∗ ⌜ RoomMerged (mergedHeld times ids prices counts elements) (at + n) ⌝ }
+    ensures { λ _. ⌜ mergedAfter times ids prices counts elements ≡ copiedMerged (mergedBefore times ids prices counts elements) at (mergedBefore ts is ps cs es) from n ⌝ }
 {
     join_bars(ts, is, ps, from, times, ids, prices, at, n);
     rows::join_counts(cs, from, counts, at, n);
@@ -213,8 +175,8 @@ pub fn move_new_bars_down(
     at: usize,
     n: usize,
 )
-    requires { ⌜ at ≤ from ⌝ ∗ ⌜ RoomMerged (mergedStore (now times) (now ids) (now prices) (now counts) (now elements)) (from + n) ⌝ }
-    ensures { λ _. ⌜ mergedStore (now (times .exit)) (now (ids .exit)) (now (prices .exit)) (now (counts .exit)) (now (elements .exit)) ≡ copiedMerged (mergedStore (now (times .entry)) (now (ids .entry)) (now (prices .entry)) (now (counts .entry)) (now (elements .entry))) at (mergedStore (now (times .entry)) (now (ids .entry)) (now (prices .entry)) (now (counts .entry)) (now (elements .entry))) from n ⌝ }
+    requires { ⌜ at ≤ from ⌝ ∗ ⌜ RoomMerged (mergedHeld times ids prices counts elements) (from + n) ⌝ }
+    ensures { λ _. ⌜ mergedAfter times ids prices counts elements ≡ copiedMerged (mergedBefore times ids prices counts elements) at (mergedBefore times ids prices counts elements) from n ⌝ }
 {
     move_bars_down(times, ids, prices, from, at, n);
     rows::down_counts(counts, from, at, n);
@@ -232,8 +194,8 @@ pub fn move_new_bars_to_start(
     from: usize,
     n: usize,
 )
-    requires { ⌜ RoomMerged (mergedStore (now times) (now ids) (now prices) (now counts) (now elements)) (from + n) ⌝ }
-    ensures { λ _. ⌜ MovedToStart (mergedStore (now (times .entry)) (now (ids .entry)) (now (prices .entry)) (now (counts .entry)) (now (elements .entry))) from n (mergedStore (now (times .exit)) (now (ids .exit)) (now (prices .exit)) (now (counts .exit)) (now (elements .exit))) ⌝ }
+    requires { ⌜ RoomMerged (mergedHeld times ids prices counts elements) (from + n) ⌝ }
+    ensures { λ _. ⌜ MovedToStart (mergedBefore times ids prices counts elements) from n (mergedAfter times ids prices counts elements) ⌝ }
 {
     move_bars_down(times, ids, prices, from, 0, n);
     rows::down_in_use(counts, elements, from, n);
@@ -249,33 +211,12 @@ pub fn move_new_bars_up(
     at: usize,
     n: usize,
 )
-    requires { ⌜ from ≤ at ⌝ ∗ ⌜ RoomMerged (mergedStore (now times) (now ids) (now prices) (now counts) (now elements)) (at + n) ⌝ }
-    ensures { λ _. ⌜ mergedStore (now (times .exit)) (now (ids .exit)) (now (prices .exit)) (now (counts .exit)) (now (elements .exit)) ≡ copiedMerged (mergedStore (now (times .entry)) (now (ids .entry)) (now (prices .entry)) (now (counts .entry)) (now (elements .entry))) at (mergedStore (now (times .entry)) (now (ids .entry)) (now (prices .entry)) (now (counts .entry)) (now (elements .entry))) from n ⌝ }
+    requires { ⌜ from ≤ at ⌝ ∗ ⌜ RoomMerged (mergedHeld times ids prices counts elements) (at + n) ⌝ }
+    ensures { λ _. ⌜ mergedAfter times ids prices counts elements ≡ copiedMerged (mergedBefore times ids prices counts elements) at (mergedBefore times ids prices counts elements) from n ⌝ }
 {
     move_bars_up(times, ids, prices, from, at, n);
     rows::up_counts(counts, from, at, n);
     rows::up_elements(elements, from, at, n);
-}
-
-// The n bars from place `from` on to place `at`, down or up.
-pub fn move_new_bars(
-    times: &mut [i64],
-    ids: &mut [i32],
-    prices: &mut [[f64; 6]],
-    counts: &mut [usize],
-    elements: &mut [[i64; 101]],
-    from: usize,
-    at: usize,
-    n: usize,
-)
-    requires { ⌜ RoomMerged (mergedStore (now times) (now ids) (now prices) (now counts) (now elements)) (from + n) ⌝ ∗ ⌜ RoomMerged (mergedStore (now times) (now ids) (now prices) (now counts) (now elements)) (at + n) ⌝ }
-    ensures { λ _. ⌜ mergedStore (now (times .exit)) (now (ids .exit)) (now (prices .exit)) (now (counts .exit)) (now (elements .exit)) ≡ copiedMerged (mergedStore (now (times .entry)) (now (ids .entry)) (now (prices .entry)) (now (counts .entry)) (now (elements .entry))) at (mergedStore (now (times .entry)) (now (ids .entry)) (now (prices .entry)) (now (counts .entry)) (now (elements .entry))) from n ⌝ }
-{
-    if at <= from {
-        move_new_bars_down(times, ids, prices, counts, elements, from, at, n);
-        return;
-    }
-    move_new_bars_up(times, ids, prices, counts, elements, from, at, n);
 }
 
 // ---- a time among the kept ones

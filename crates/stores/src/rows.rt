@@ -5,7 +5,7 @@ ghost use mathlib.Core.List.{[]};
 ghost use Prim.Native.Nat.{_+_, _≤_, _<_, min};
 ghost use lib.ListN.{length, take, getD, set};
 ghost use Rattle.bars.specs.Lists.{copied};
-ghost use Rattle.stores.specs.Stores.{inUse};
+ghost use Rattle.stores.specs.Code.StoreRows.{inUse};
 
 // ---- the first n rows of another slice to the beginning of this one
 

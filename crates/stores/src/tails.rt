@@ -3,10 +3,12 @@
 ghost use mathlib.Core.Path.{_≡_};
 ghost use mathlib.Core.List.{_++_};
 ghost use Prim.Native.Nat.{_+_, _-_, _<_, _≤_};
-ghost use lib.ListN.{length, take, drop};
-ghost use Rattle.stores.specs.Stores.{rawStore, SizedRaw, RoomRaw, rawBars, barAt};
-ghost use Rattle.stores.specs.TailRows.{rowsFrom, TailHas};
-ghost use Rattle.bars.specs.MergedBars.{removeIncludeBar, mergeBars, mergeBarsAll, behind};
+ghost use lib.ListN.{length, take};
+ghost use Rattle.stores.specs.Stores.{rawBars};
+ghost use Rattle.stores.specs.Code.StoreRows.{SizedRaw, barAt};
+ghost use Rattle.stores.specs.Code.TailRows.{rowsFrom, TailHas};
+ghost use Rattle.bars.specs.Code.MergedBars.{removeIncludeBar, mergeBars, behind};
+ghost use Rattle.stores.specs.Lent.{rawHeld, rawBefore, rawAfter};
 use crate::bar_stores::read_bar;
 use crate::bar_stores::write_bar;
 use bars::Bar;
@@ -21,8 +23,8 @@ fn include_last(
     m: usize,
     b: Bar,
 ) -> usize
-    requires { ⌜ (0 < m) × (m < length (now times)) × SizedRaw (rawStore (now times) (now ids) (now prices)) (length (now times)) ⌝ }
-    ensures { λ r. ⌜ (take r (rawBars (rawStore (now (times .exit)) (now (ids .exit)) (now (prices .exit)))) ≡ take (m - 1) (rawBars (rawStore (now (times .entry)) (now (ids .entry)) (now (prices .entry)))) ++ removeIncludeBar k1 (barAt (rawStore (now (times .entry)) (now (ids .entry)) (now (prices .entry))) (m - 1)) b) × (m ≤ r) × (r ≤ m + 1) × (rowsFrom r (rawStore (now (times .exit)) (now (ids .exit)) (now (prices .exit))) ≡ rowsFrom r (rawStore (now (times .entry)) (now (ids .entry)) (now (prices .entry)))) ⌝ }
+    requires { ⌜ (0 < m) × (m < length (now times)) × SizedRaw (rawHeld times ids prices) (length (now times)) ⌝ }
+    ensures { λ r. ⌜ (take r (rawBars (rawAfter times ids prices)) ≡ take (m - 1) (rawBars (rawBefore times ids prices)) ++ removeIncludeBar k1 (barAt (rawBefore times ids prices) (m - 1)) b) × (m ≤ r) × (r ≤ m + 1) × (rowsFrom r (rawAfter times ids prices) ≡ rowsFrom r (rawBefore times ids prices)) ⌝ }
 {
     let last = m - 1;
     let k2 = read_bar(times, ids, prices, last);
@@ -47,8 +49,8 @@ pub fn merge_into_tail(
     m: usize,
     b: Bar,
 ) -> usize
-    requires { ⌜ (m < length (now times)) × SizedRaw (rawStore (now times) (now ids) (now prices)) (length (now times)) ⌝ }
-    ensures { λ r. ⌜ TailHas any k (rawStore (now (times .entry)) (now (ids .entry)) (now (prices .entry))) m 1 (rawStore (now (times .exit)) (now (ids .exit)) (now (prices .exit))) r (mergeBars (behind any k ++ take m (rawBars (rawStore (now (times .entry)) (now (ids .entry)) (now (prices .entry))))) b) ⌝ }
+    requires { ⌜ (m < length (now times)) × SizedRaw (rawHeld times ids prices) (length (now times)) ⌝ }
+    ensures { λ r. ⌜ TailHas any k (rawBefore times ids prices) m 1 (rawAfter times ids prices) r (mergeBars (behind any k ++ take m (rawBars (rawBefore times ids prices))) b) ⌝ }
 {
     if m == 0 {
         write_bar(times, ids, prices, 0, b);
@@ -63,32 +65,4 @@ pub fn merge_into_tail(
     }
     let p = prices[m - 2];
     include_last(p[2], times, ids, prices, m, b)
-}
-
-// A whole run: n bars of a store of raw bars, from place a on, merged one after the other into the m bars of the tail. `any` and k
-// as above. Returns how many bars the tail then has; the rows from that place on stay as they were.
-pub fn merge_run_into_tail(
-    any: bool,
-    k: Bar,
-    rt: &[i64],
-    ri: &[i32],
-    rp: &[[f64; 6]],
-    a: usize,
-    n: usize,
-    times: &mut [i64],
-    ids: &mut [i32],
-    prices: &mut [[f64; 6]],
-    m: usize,
-) -> usize
-    requires { ⌜ RoomRaw (rawStore (now rt) (now ri) (now rp)) (a + n) ⌝ ∗ ⌜ (m + n ≤ length (now times)) × SizedRaw (rawStore (now times) (now ids) (now prices)) (length (now times)) ⌝ }
-    ensures { λ r. ⌜ TailHas any k (rawStore (now (times .entry)) (now (ids .entry)) (now (prices .entry))) m n (rawStore (now (times .exit)) (now (ids .exit)) (now (prices .exit))) r (mergeBarsAll (behind any k ++ take m (rawBars (rawStore (now (times .entry)) (now (ids .entry)) (now (prices .entry))))) (take n (drop a (rawBars (rawStore (now (rt .entry)) (now (ri .entry)) (now (rp .entry))))))) ⌝ }
-{
-    let mut rows = m;
-    let mut i: usize = 0;
-    while i < n {
-        let b = read_bar(rt, ri, rp, a + i);
-        rows = merge_into_tail(any, k, times, ids, prices, rows, b);
-        i += 1;
-    }
-    rows
 }

@@ -16,11 +16,10 @@ use Rattle.machine.specs.declared.Mark.{Mark}
 use Rattle.machine.specs.Fractals.{Fractal, timeOf, fxOf, taken}
 use Rattle.machine.specs.Strokes.{Stroke}
 use Rattle.machine.specs.Stand.{Settings, State}
-use Rattle.machine.specs.Soundness.{barsOf, fewerFractals, countsFit, fewStrokes, rawPass, isMerged, mergedPass, rises, barTimes, mergedTimes, fractalTimes, strokeRises, timesRise}
-use Rattle.machine.specs.Soundness.{alternates, sameFractal, isStroke, strokesPass, isNamed, asked, inner, elementsKept, newestLast, settingsSound, listsSound, soundBut, sound}
+use Rattle.machine.specs.Soundness.{barsOf, fewerFractals, countsFit, fewStrokes, rawPass, isMerged, mergedPass, rises, barTimes, mergedTimes, fractalTimes, strokeRises, timesRise, alternates, sameFractal, isStroke, strokesPass, isNamed, asked, inner, elementsKept, newestLast, settingsSound, listsSound, soundBut, sound}
 use Rattle.machine.specs.Feed.{Moved, isLater, make, move}
 use Rattle.machine.specs.FeedQuestions.{question10, merged, movedFits, question11, question12, orElse, firstOf, failedAfter4, failed}
-use Rattle.strokes.specs.Stored.{bareBar, bareFractal, bareStroke, bareState}
+use Rattle.strokes.specs.StateRead.{bareBar, bareFractal, bareStroke, bareState}
 use Rattle.strokes.proofs.BareStates.{every-map, some-map}
 use Rattle.strokes.proofs.BareSteps.{make-bare, move-bare, merged-with-bare}
 

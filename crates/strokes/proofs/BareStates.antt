@@ -16,8 +16,8 @@ use Rattle.machine.specs.Fractals.{Fractal}
 use Rattle.machine.specs.Strokes.{Stroke}
 use Rattle.machine.specs.Stand.{State}
 use Rattle.strokes.specs.declared.Stand.{Stand}
-use Rattle.strokes.specs.Stored.{Stores, FractalStore, rowBar, fractalOf, rowFractal, storedFractals, noFractal, strokeWith, strokesWith, barCounts, fractalCounts, stateOf}
-use Rattle.strokes.specs.Stored.{bareBar, bareFractal, bareStroke, bareState}
+use Rattle.strokes.specs.StateRead.{rowBar, fractalOf, rowFractal, storedFractals, noFractal, strokeWith, strokesWith, barCounts, fractalCounts, stateOf, bareBar, bareFractal, bareStroke, bareState}
+use Rattle.strokes.specs.Lent.{Stores, FractalStore}
 
 -- ---- lists that are changed element by element
 

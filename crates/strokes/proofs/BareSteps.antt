@@ -15,9 +15,8 @@ use Rattle.machine.specs.declared.Direction.the-variants.{Up, Down}
 use Rattle.machine.specs.Strokes.{Stroke, directionOf, checkBi}
 use Rattle.machine.specs.Break.{highOf, lowOf, pastIn, brokenBy, breaks, joined}
 use Rattle.machine.specs.Stand.{Settings, State}
-use Rattle.machine.specs.Feed.{isLater, rawWith, mergedWith, Moved, addFound, addMade, makeAfter, makeIf, make, breakIf, breakLast, moveAfter, moveIf, move}
-use Rattle.machine.specs.Feed.{shedIf, shedCount, dropEarly, Step, finishIf, finish, stepWith, step}
-use Rattle.strokes.specs.Stored.{bareBar, bareFractal, bareStroke, bareState}
+use Rattle.machine.specs.Feed.{isLater, rawWith, mergedWith, Moved, addFound, addMade, makeAfter, makeIf, make, breakIf, breakLast, moveAfter, moveIf, move, shedIf, shedCount, dropEarly, Step, finishIf, finish, stepWith, step}
+use Rattle.strokes.specs.StateRead.{bareBar, bareFractal, bareStroke, bareState}
 use Rattle.strokes.proofs.BareStates.{last-map, init-map, map-drop, strokes-twice}
 
 -- ---- making

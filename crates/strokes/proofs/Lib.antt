@@ -1,3 +1,4 @@
+pub mod PackedRows
 pub mod StoredRaw
 pub mod StoredUnfinished
 pub mod StoredCounts

@@ -14,16 +14,17 @@ use lib.Signed.{ltZ, ltZ-yes, <ℤ-irrefl}
 use Rattle.bars.specs.declared.Bar.{Bar}
 use Rattle.bars.specs.declared.NewBar.{NewBar}
 use Rattle.bars.specs.Bars.{Merged, mergedOf}
-use Rattle.bars.specs.Lists.{keepIf, foldl, last}
+use Rattle.bars.specs.Lists.{keepIf, foldLeft, last}
 use Rattle.bars.specs.Merging.{mergeIn, mergeAll, atTimes, again}
-use Rattle.stores.specs.Stores.{RawStore, MergedStore, SizedMerged, barOf, rawBars, mergedBars, barAt, newBarAt, rising, nextIf, placeOf}
+use Rattle.stores.specs.Stores.{RawStore, MergedStore, barOf, rawBars, mergedBars}
+use Rattle.stores.specs.Code.StoreRows.{SizedMerged, barAt, newBarAt, rising, nextIf, placeOf}
 use Rattle.stores.proofs.Columns.{raw-length, raw-at, raw-times, merged-length, merged-at}
 use Rattle.bars.proofs.MergedLists.{merge-run-grows}
 use Rattle.stores.proofs.Searching.{timed, named, nameless}
 use Rattle.stores.proofs.KeptBars.{map-take}
 use Rattle.strokes.specs.declared.Stand.{Stand}
-use Rattle.strokes.specs.StoreSteps.{HasUnfinished, CanMerge, RisingRaw, LastHas, keptRaw, keptUnfinished, withUnfinished, mergedAgain}
-use Rattle.machine.proofs.Times.{not-lt-le, le-antisym}
+use Rattle.strokes.specs.Code.BarSteps.{HasUnfinished, CanMerge, RisingRaw, LastHas, keptRaw, keptUnfinished, withUnfinished, mergedAgain}
+use Rattle.bars.proofs.Times.{not-lt-le, le-antisym}
 use Rattle.strokes.proofs.StoredRaw.{init-take, last-take}
 use Rattle.strokes.proofs.StoredUnfinished.{room-of, has-unfinished}
 use Rattle.arith.proofs.FloatOrder.{no}
@@ -114,22 +115,22 @@ module _ (s : Stand) (m : RawStore) (h : RisingRaw s m) (t : ℤ) (p : ℕ) (pla
 
 module _ (s r : Stand) (u w : MergedStore) (bs : List Bar) where
   pub none-named : CanMerge s u (mergeAll (keptUnfinished s u) bs) → bs ≡ [] → HasUnfinished s s u (mergeAll (keptUnfinished s u) bs)
-  unfolding mergeAll foldl withUnfinished
+  unfolding mergeAll foldLeft withUnfinished
   none-named h e =
       has-unfinished s s u u (s .unfinished) (mergeAll (keptUnfinished s u) bs) refl refl (h .unfinished) (h .fits) (ap (mergeAll (keptUnfinished s u)) (sym e))
 
   pub one-fits : (b : Bar) → CanMerge s u (mergeAll (keptUnfinished s u) bs) → bs ≡ b ∷ [] → CanMerge s u (mergeIn (keptUnfinished s u) b)
-  unfolding mergeAll foldl
+  unfolding mergeAll foldLeft
   one-fits b h e = subst (CanMerge s u) (ap (mergeAll (keptUnfinished s u)) e) h
 
   pub one-named : (b : Bar) → bs ≡ b ∷ [] → HasUnfinished s r w (mergeIn (keptUnfinished s u) b) → HasUnfinished s r w (mergeAll (keptUnfinished s u) bs)
-  unfolding mergeAll foldl
+  unfolding mergeAll foldLeft
   one-named b e h = subst (HasUnfinished s r w) (sym (ap (mergeAll (keptUnfinished s u)) e)) h
 
 -- ---- the run
 
 merge-both : (l : List Merged) (a b : List Bar) → mergeAll l (a ++ b) ≡ mergeAll (mergeAll l a) b
-unfolding mergeAll foldl
+unfolding mergeAll foldLeft
 merge-both l [] b = refl
 merge-both l (x ∷ a) b = merge-both (mergeIn l x) a b
 
@@ -213,7 +214,7 @@ module _ (s v : Stand) (m : RawStore) (w : MergedStore) (es : List ℤ) (b : Bar
 
   module _ (over : length es ≤ i) where
     at-last : mergeIn (keptUnfinished v w) b ≡ answer
-    unfolding mergeAll foldl atTimes
+    unfolding mergeAll foldLeft atTimes
     at-last = ap (λ (ts : List ℤ). mergeAll (keptUnfinished v w) (atTimes (keptRaw s m) ts ++ b ∷ [])) (sym (drop-of-length-le es {i = i} over)) ∙ g .left
 
     pub last-fits : length answer ≤ s .rooms .unfinished → CanMerge v w (mergeIn (keptUnfinished v w) b)

@@ -11,12 +11,13 @@ use lib.Dec.{T, leb, le→leb}
 use lib.Ieee.Fits.{and-i, and-l, and-r}
 use Rattle.bars.specs.declared.NewBar.{NewBar}
 use Rattle.bars.specs.Lists.{copied, every}
-use Rattle.stores.specs.Stores.{MergedStore, SizedMerged, setNewBar, copiedMerged}
+use Rattle.stores.specs.Stores.{MergedStore}
+use Rattle.stores.specs.Code.StoreRows.{SizedMerged, setNewBar, copiedMerged}
 use Rattle.bars.proofs.Moves.{take-copied, run-is}
 use Rattle.strokes.specs.declared.Stand.{Stand}
-use Rattle.strokes.specs.Stored.{elementsSized}
-use Rattle.strokes.specs.StoreSteps.{CanJoin}
-use Rattle.strokes.specs.ElementCounts.{StaySized}
+use Rattle.strokes.specs.StateRead.{elementsSized}
+use Rattle.strokes.specs.Code.BarSteps.{CanJoin}
+use Rattle.strokes.specs.Code.ElementCounts.{StaySized}
 use Rattle.strokes.proofs.StoredRaw.{moved-down}
 use Rattle.strokes.proofs.StoredUnfinished.{joined-rows}
 

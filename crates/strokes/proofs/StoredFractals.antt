@@ -17,19 +17,20 @@ use mir.ValLaws.{toZ-ofZ}
 use Rattle.bars.specs.declared.Bar.{Bar}
 use Rattle.bars.specs.Bars.{Merged, rowOf}
 use Rattle.bars.specs.Lists.{All}
-use Rattle.stores.specs.Stores.{RawStore, RoomRaw, zipWith, barOf, rawBars, barAt}
+use Rattle.stores.specs.Stores.{RawStore, zipWith, barOf, rawBars}
+use Rattle.stores.specs.Code.StoreRows.{RoomRaw, barAt}
 use Rattle.stores.proofs.Columns.{zip-take, zip-drop, zip-append, raw-at, raw-longer}
 use Rattle.machine.specs.declared.Mark.{Mark}
 use Rattle.machine.specs.declared.Mark.the-variants.{D, G}
-use Rattle.strokes.specs.declared.strokes_store.Written.{Written}
-use Rattle.machine.specs.Fractals.{Fractal, Placed, isTop, isBottom, checkFx, taken, pushIf, pushed, fxsAfter, checkFxs, placedAfter}
-use Rattle.check_bi.specs.declared.scan.Candle.{Candle}
-use Rattle.check_bi.specs.Scan.{candleOf, topOf, bottomOf}
-use Rattle.strokes.specs.Stored.{FractalStore, fractalStore, rowBar, fractalOf, rowFractal, storedFractals, bareBar, bareFractal}
-use Rattle.strokes.specs.StrokeStore.{stampsOf, pricesOf, stampRow, priceRow, setFractal, SizedFractals, plainBar, fractalsOf, pasted, putFractals}
-use Rattle.strokes.specs.StrokeStore.{lastMark, lastOf, Writing, putIf, putFractal, putWindowIf, putWindow}
+use Rattle.machine.specs.Fractals.{Fractal, isTop, isBottom, checkFx, taken, pushIf, pushed, fxsAfter, checkFxs, placedAfter}
+use Rattle.check_bi.specs.declared.check_fx.Candle.{Candle}
+use Rattle.check_bi.specs.Code.Scan.{candleOf, topOf, bottomOf}
+use Rattle.strokes.specs.StateRead.{rowBar, fractalOf, rowFractal, storedFractals, bareBar, bareFractal}
+use Rattle.strokes.specs.Lent.{FractalStore, fractalStore}
+use Rattle.strokes.specs.Code.StrokeSteps.{setFractal, SizedFractals, plainBar, fractalsBetween, lastMark, lastOf, Writing, putIf, putFractal, putWindowIf, putWindow}
+use Rattle.strokes.specs.FractalRows.{stampsOf, pricesOf, stampRow, priceRow, pasted, putFractals}
 use Rattle.machine.proofs.Lists.{All-map}
-use Rattle.machine.proofs.Places.{fractal, Stands, placed-are, placed-stand}
+use Rattle.machine.proofs.Places.{fractal, placed-are, placed-stand}
 use Rattle.machine.proofs.FewerFractals.{All-read}
 
 -- ---- a fractal's rows read back
@@ -287,8 +288,8 @@ bottom-read a b c ex ey ez e h = sym (λ i. bottomOf (ex i) (ey i) (ez i)) ∙ s
 
 -- before the first window
 pub write-start : (r : RawStore) (d : FractalStore) (at first end : ℕ) (m : Mark)
-    → Going d at (record { store = d; written = record { count = 0; last = m } }) (fxsAfter (lastOf (record { count = 0; last = m })) (drop first (plains r end))) (fractalsOf r first end)
-unfolding fractalsOf checkFxs lastOf lastMark
+    → Going d at (record { store = d; written = record { count = 0; last = m } }) (fxsAfter (lastOf (record { count = 0; last = m })) (drop first (plains r end))) (fractalsBetween r first end)
+unfolding fractalsBetween checkFxs lastOf lastMark
 write-start r d at first end m = going-start d at m (fxsAfter none (drop first (plains r end)))
 
 -- of a count that is not 0

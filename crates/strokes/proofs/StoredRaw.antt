@@ -13,7 +13,8 @@ use lib.IntN.{ℤ, pos}
 use lib.Signed.{ltZ}
 use Rattle.bars.specs.declared.Bar.{Bar}
 use Rattle.bars.specs.Lists.{skipWhile, last, init, copied}
-use Rattle.stores.specs.Stores.{RawStore, rawStore, SizedRaw, rawBars, setBar, copiedRaw, nextIf, placeOf}
+use Rattle.stores.specs.Stores.{RawStore, rawStore, rawBars}
+use Rattle.stores.specs.Code.StoreRows.{SizedRaw, setBar, copiedRaw, nextIf, placeOf}
 use Rattle.bars.proofs.Moves.{take-copied, run-is}
 use Rattle.stores.proofs.Columns.{raw-length, raw-appended, raw-copied, raw-times, sized-set, sized-copied}
 use Rattle.stores.proofs.Searching.{place-le, place-skip}
@@ -21,7 +22,7 @@ use Rattle.stores.proofs.KeptBars.{map-take}
 use Rattle.strokes.specs.declared.Stand.{Stand}
 use Rattle.machine.specs.Stand.{State}
 use Rattle.machine.specs.Feed.{rawWith}
-use Rattle.strokes.specs.StoreSteps.{HasRaw, keptRaw, withRaw, rawOnly}
+use Rattle.strokes.specs.Code.BarSteps.{HasRaw, keptRaw, withRaw, rawOnly}
 
 -- ---- lists
 

@@ -14,7 +14,8 @@ use lib.Ieee.Fits.{and-i, and-l, and-r}
 use Rattle.bars.specs.declared.Bar.{Bar}
 use Rattle.bars.specs.Bars.{Merged, mergedOf}
 use Rattle.bars.specs.Lists.{every, last, init}
-use Rattle.stores.specs.Stores.{RawStore, MergedStore, SizedRaw, SizedMerged, rawBars, mergedBars, newBarAt, rising}
+use Rattle.stores.specs.Stores.{RawStore, MergedStore, rawBars, mergedBars}
+use Rattle.stores.specs.Code.StoreRows.{SizedRaw, SizedMerged, newBarAt, rising}
 use Rattle.stores.proofs.Columns.{raw-length, raw-times, merged-length, merged-at}
 use Rattle.stores.proofs.KeptBars.{map-take}
 use Rattle.strokes.specs.declared.Stand.{Stand}
@@ -24,8 +25,9 @@ use Rattle.machine.specs.Break.{joined}
 use Rattle.machine.specs.Stand.{State}
 use Rattle.machine.specs.Feed.{mergedWith}
 use Rattle.machine.specs.Soundness.{rises, barTimes, endsOn, closes}
-use Rattle.strokes.specs.Stored.{Stores, storedFractals, strokeWith, strokesWith, barCounts, fractalCounts, stateOf, elementsSized}
-use Rattle.strokes.specs.StoreSteps.{HasRaw, HasUnfinished, RisingRaw, LastHas, keptRaw, keptUnfinished, withRaw, withUnfinished, withoutLast, storedStroke, mergedAgain}
+use Rattle.strokes.specs.StateRead.{storedFractals, strokeWith, strokesWith, barCounts, fractalCounts, stateOf, elementsSized}
+use Rattle.strokes.specs.Lent.{Stores}
+use Rattle.strokes.specs.Code.BarSteps.{HasRaw, HasUnfinished, RisingRaw, LastHas, keptRaw, keptUnfinished, withRaw, withUnfinished, withoutLast, storedStroke, mergedAgain}
 use Rattle.strokes.proofs.StoredRaw.{last-take}
 use Rattle.strokes.proofs.StoredUnfinished.{room-of}
 

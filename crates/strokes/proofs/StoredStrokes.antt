@@ -18,13 +18,13 @@ use borrow.Author.Tests.{ltb-true, ltb-false}
 use Rattle.arith.specs.Order.{maxOf, minOf}
 use Rattle.bars.specs.Bars.{Merged, mergedOf}
 use Rattle.bars.specs.Lists.{All, every, some-of, last, init, copied}
-use Rattle.stores.specs.Stores.{RawStore, MergedStore, SizedMerged, RoomRaw, RoomMerged, rawPart, zipWith, barOf, barAt, newBarAt, rawBars, mergedBars, copiedMerged, MovedToStart}
+use Rattle.stores.specs.Stores.{RawStore, MergedStore, rawPart, barOf, rawBars, mergedBars}
+use Rattle.stores.specs.Code.StoreRows.{SizedMerged, RoomRaw, RoomMerged, barAt, newBarAt, copiedMerged, MovedToStart}
 use Rattle.bars.proofs.Moves.{length-copied, take-copied, run-is, down-turn}
 use Rattle.stores.proofs.Columns.{zip-copied, zip-length, zip-at, merged-at, merged-length, merged-copied, sized-merged-copied, merged-bars}
 use Rattle.stores.proofs.KeptBars.{map-take}
 use Rattle.stores.proofs.InUse.{moved-read, sized-moved}
 use Rattle.strokes.specs.declared.Stand.{Stand}
-use Rattle.check_bi.specs.declared.scan.Candle.{Candle}
 use Rattle.strokes.specs.declared.strokes_store.LastStroke.{LastStroke}
 use Rattle.machine.specs.declared.Mark.{Mark}
 use Rattle.machine.specs.declared.Mark.the-variants.{D, G}
@@ -32,22 +32,20 @@ use Rattle.machine.specs.Fractals.{Fractal, Placed, isTop, taken, checkFx, push
 use Rattle.machine.specs.Strokes.{Stroke, directionOf, strokeAt, checkBi}
 use Rattle.machine.specs.Break.{highOf, lowOf}
 use Rattle.check_bi.specs.declared.scan.FoundBi.{FoundBi}
-use Rattle.check_bi.specs.declared.scan.Fx.{Fx}
-use Rattle.check_bi.specs.Scan.{fxAt, fxPlaced, topOf}
+use Rattle.check_bi.specs.declared.check_fx.Fx.{Fx}
+use Rattle.check_bi.specs.Code.Scan.{fxAt, fxPlaced, topOf}
 use Rattle.machine.specs.Feed.{shedIf}
 use Rattle.machine.specs.Soundness.{fewerFractals, alternates, sameFractal, isStroke}
-use Rattle.strokes.specs.Stored.{Stores, mergedSized, fractalSized, rawSized, storesSized, countsSized, elementsSized, sized, stateOf}
-use Rattle.strokes.specs.Stored.{rowBar, fractalOf, noFractal, bareBar, bareFractal, bareStroke}
-use Rattle.strokes.specs.Stored.{FractalStore, rowFractal, storedFractals, strokeWith, strokesWith, settingsOf, barCounts, fractalCounts, total}
-use Rattle.strokes.specs.StrokeStore.{SizedFractals, RoomFractals, keptStrokes, Fewer, Kept, Unmoved, copiedFractals, shifted, shedStand, ShedWhere}
-use Rattle.strokes.specs.StrokeStore.{plainBar, fractalsOf, pasted, putFractals, withStroke, endIf, windowsEnd, madeStroke, Makeable, Made}
-use Rattle.strokes.specs.StrokeStore.{lastPlace, lastBars, lastFractals, endPlace, rowMark, lastRead, LastStands, LastIs, TakenOff}
-use Rattle.machine.proofs.FewerFractals.{MadeFrom, StrokeFound, stroke-found, start-read, end-read, stroke-fractals, order, end-stands}
+use Rattle.strokes.specs.StateRead.{mergedSized, fractalSized, rawSized, storesSized, countsSized, elementsSized, sized, stateOf, rowBar, fractalOf, noFractal, bareBar, bareFractal, bareStroke, rowFractal, storedFractals, strokeWith, strokesWith, settingsOf, barCounts, fractalCounts, total}
+use Rattle.strokes.specs.Lent.{Stores, FractalStore}
+use Rattle.strokes.specs.Code.StrokeSteps.{SizedFractals, RoomFractals, keptStrokes, Fewer, Kept, copiedFractals, shifted, shedStand, ShedWhere, plainBar, fractalsBetween, withStroke, endIf, windowsEnd, madeStroke, Makeable, Made, lastPlace, lastBars, lastFractals, endPlace, lastRead, LastStands, LastIs, TakenOff}
+use Rattle.strokes.specs.FractalRows.{pasted, putFractals, rowMark}
+use Rattle.machine.proofs.FewerFractals.{MadeFrom, stroke-found, start-read, end-read, stroke-fractals, order, end-stands}
 use Rattle.machine.proofs.Places.{fits}
 use Rattle.machine.proofs.StrokesChain.{init-snoc}
 use Rattle.check_bi.proofs.ScanPlaces.{MadeAs}
-use Rattle.strokes.specs.ElementCounts.{StaySized}
-use Rattle.strokes.specs.StoreSteps.{withoutLast}
+use Rattle.strokes.specs.Code.ElementCounts.{StaySized}
+use Rattle.strokes.specs.Code.BarSteps.{withoutLast}
 use Rattle.strokes.proofs.StoredCounts.{stay-fewer, stay-moved, stay-added}
 use Rattle.strokes.proofs.StoredFractals.{Shown, fxs-shown, sized-put, stored-put, fxs-bare}
 use Rattle.strokes.proofs.BareSteps.{shed-bare}
@@ -345,8 +343,8 @@ bare-twice [] = refl
 bare-twice (f ∷ fs) = ap (λ (x : List Fractal). bareFractal f ∷ x) (bare-twice fs)
 
 -- the fractals that are written are those of the bars in the store, without elements
-fractals-are : (u : MergedStore) (n first end : ℕ) → SizedMerged u n → map bareFractal (fractalsOf (rawPart u) first end) ≡ map bareFractal (checkFxs (drop first (take end (mergedBars u))))
-unfolding fractalsOf checkFxs
+fractals-are : (u : MergedStore) (n first end : ℕ) → SizedMerged u n → map bareFractal (fractalsBetween (rawPart u) first end) ≡ map bareFractal (checkFxs (drop first (take end (mergedBars u))))
+unfolding fractalsBetween checkFxs
 fractals-are u n first end h =
     let U = mergedBars u in
     let e : map plainBar (rawBars (rawPart u)) ≡ map bareBar U = sym (ap (map plainBar) (merged-bars u n h)) ∙ plain-bare U in
@@ -381,8 +379,8 @@ unfolding endIf
 end-most true x = omega arith
 end-most false x = omega arith
 
-pub written-few : (u : MergedStore) (first bars n e : ℕ) → e ≡ windowsEnd first bars n → length (fractalsOf (rawPart u) first e) ≤ bars
-unfolding fractalsOf checkFxs windowsEnd
+pub written-few : (u : MergedStore) (first bars n e : ℕ) → e ≡ windowsEnd first bars n → length (fractalsBetween (rawPart u) first e) ≤ bars
+unfolding fractalsBetween checkFxs windowsEnd
 written-few u first bars n e h =
     let X = map plainBar (rawBars (rawPart u)) in
     let a = fxs-few none (drop first (take e X)) in
@@ -411,8 +409,8 @@ more-read ns ms n m ks x fs y e h a b p q =
     ∙ (λ i. strokes-same ns ms (pasted ks t x) ks (pasted fs t y) fs h (take-pasted ks t x a) (take-pasted fs t y b) i
     ++ strokeWith (run-pasted fs t m y b q i) (run-pasted ks t n x a p i) ∷ [])
 
-written-shown : (r : RawStore) (first e : ℕ) → All Shown (fractalsOf r first e)
-unfolding fractalsOf checkFxs
+written-shown : (r : RawStore) (first e : ℕ) → All Shown (fractalsBetween r first e)
+unfolding fractalsBetween checkFxs
 written-shown r first e = fxs-shown none (drop first (take e (map plainBar (rawBars r))))
 
 total-kept : (s : Stand) → total (take (s .strokes) (s .bars)) ≡ total (barCounts s)
@@ -473,7 +471,7 @@ module _ (s : Stand) (u k : MergedStore) (f : FractalStore) (first bars : ℕ) (
       ∙ ap (pasted (mergedBars k) t) (sym (run-take (mergedBars u) (s .unfinished) first bars (g .inside)))
 
   written-are : (e : ℕ) → e ≡ windowsEnd first bars (s .unfinished)
-      → map bareFractal (fractalsOf (rawPart u) first e) ≡ map bareFractal (checkFxs (take (bars + 1) (drop first (take (s .unfinished) (mergedBars u)))))
+      → map bareFractal (fractalsBetween (rawPart u) first e) ≡ map bareFractal (checkFxs (take (bars + 1) (drop first (take (s .unfinished) (mergedBars u)))))
   unfolding windowsEnd
   written-are e q =
       let U = mergedBars u in
@@ -484,11 +482,11 @@ module _ (s : Stand) (u k : MergedStore) (f : FractalStore) (first bars : ℕ) (
       ∙ ap (λ (z : List Merged). map bareFractal (checkFxs (drop first z))) (ap (λ (y : ℕ). take y U) q ∙ end-take (ltb x n) U x n refl (g .inside))
       ∙ ap (λ (z : List Merged). map bareFractal (checkFxs z)) (ap (λ (y : ℕ). drop first (take y (take n U))) (sym d) ∙ sym (run-is (take n U) first (bars + 1)))
 
-  fractals-read : (f' : FractalStore) (t e : ℕ) → e ≡ windowsEnd first bars (s .unfinished) → f' ≡ putFractals f t (fractalsOf (rawPart u) first e)
+  fractals-read : (f' : FractalStore) (t e : ℕ) → e ≡ windowsEnd first bars (s .unfinished) → f' ≡ putFractals f t (fractalsBetween (rawPart u) first e)
       → storedFractals f' ≡ pasted (storedFractals f) t (map bareFractal (checkFxs (take (bars + 1) (drop first (take (s .unfinished) (mergedBars u))))))
   fractals-read f' t e q w =
       ap storedFractals w
-      ∙ stored-put f t (s .rooms .strokes) (fractalsOf (rawPart u) first e) (h .fractals) (written-shown (rawPart u) first e)
+      ∙ stored-put f t (s .rooms .strokes) (fractalsBetween (rawPart u) first e) (h .fractals) (written-shown (rawPart u) first e)
       ∙ ap (pasted (storedFractals f) t) (written-are e q)
 
   -- a stand whose stroke store was written so
@@ -496,8 +494,8 @@ module _ (s : Stand) (u k : MergedStore) (f : FractalStore) (first bars : ℕ) (
       → t ≡ total (take (s .strokes) (s .bars))
       → e ≡ windowsEnd first bars (s .unfinished)
       → k' ≡ copiedMerged k t u first bars
-      → m ≡ length (fractalsOf (rawPart u) first e)
-      → f' ≡ putFractals f t (fractalsOf (rawPart u) first e)
+      → m ≡ length (fractalsBetween (rawPart u) first e)
+      → f' ≡ putFractals f t (fractalsBetween (rawPart u) first e)
       → r ≡ withStroke s bars m
       → barCounts r ≡ barCounts s ++ bars ∷ []
       → fractalCounts r ≡ fractalCounts s ++ m ∷ []
@@ -516,7 +514,7 @@ module _ (s : Stand) (u k : MergedStore) (f : FractalStore) (first bars : ℕ) (
       let lk : length (mergedBars k) ≡ room = merged-length k room (h .merged) in
       let lf : length (storedFractals f) ≡ room = stored-length f room (h .fractals) in
       let lx : length x ≡ bars = ap length (run-take (mergedBars u) (s .unfinished) first bars (g .inside)) ∙ length-take-le bars (drop first (mergedBars u)) (rw length-drop (omega (arith, inside))) in
-      let ly : m ≡ length y = em ∙ sym (length-map (fractalsOf (rawPart u) first e) bareFractal) ∙ ap length (written-are e ee) in
+      let ly : m ≡ length y = em ∙ sym (length-map (fractalsBetween (rawPart u) first e) bareFractal) ∙ ap length (written-are e ee) in
       let few = written-few u first bars (s .unfinished) e ee in
       let rm : r .rooms .strokes ≡ room = ap (λ (z : Stand). z .rooms .strokes) er in
       let st : r .strokes ≡ s .strokes + 1 = ap (λ (z : Stand). z .strokes) er in
@@ -534,7 +532,7 @@ module _ (s : Stand) (u k : MergedStore) (f : FractalStore) (first bars : ℕ) (
                   (sized-merged-copied k u t first bars room (s .rooms .unfinished) (h .merged) (g .merged) (rw tt' more) (rw lower at inside)));
               fractals =
                   subst (SizedFractals f') (sym rm) (subst (λ (z : FractalStore). SizedFractals z room) (sym ef)
-                  (sized-put f t room (fractalsOf (rawPart u) first e) (h .fractals) (omega arith)));
+                  (sized-put f t room (fractalsBetween (rawPart u) first e) (h .fractals) (omega arith)));
               fits = rw (ns, rm, total-more w bars) more;
               fewer =
                   subst (λ (z : List ℕ). Fewer (barCounts r) z) (sym ms)

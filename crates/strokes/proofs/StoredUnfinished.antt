@@ -15,15 +15,16 @@ use Rattle.bars.specs.declared.NewBar.{NewBar}
 use Rattle.bars.specs.Bars.{Merged, mergedOf, own}
 use Rattle.bars.specs.Lists.{last, init, copied}
 use Rattle.bars.specs.Merging.{mergeIn, removeInclude}
-use Rattle.bars.specs.MergedBars.{removeIncludeAfter, inPlaceOf}
-use Rattle.stores.specs.Stores.{MergedStore, mergedStore, rawPart, SizedMerged, RoomMerged, barOf, mergedBars, barAt, newBarAt, setNewBar, copiedRaw, copiedMerged, placeOf}
+use Rattle.bars.specs.Code.MergedBars.{removeIncludeAfter, inPlaceOf}
+use Rattle.stores.specs.Stores.{MergedStore, mergedStore, rawPart, barOf, mergedBars}
+use Rattle.stores.specs.Code.StoreRows.{SizedMerged, RoomMerged, barAt, newBarAt, setNewBar, copiedRaw, copiedMerged, placeOf}
 use Rattle.bars.proofs.Moves.{take-copied, run-is}
 use Rattle.stores.proofs.Columns.{merged-length, merged-at, merged-copied, merged-appended, merged-bars, raw-times, sized-merged-set, sized-merged-copied}
 use Rattle.strokes.specs.declared.Stand.{Stand}
 use Rattle.machine.specs.ByTime.{from}
 use Rattle.machine.specs.Break.{fromBar, joined}
-use Rattle.strokes.specs.Stored.{strokeWith}
-use Rattle.strokes.specs.StoreSteps.{HasUnfinished, CanMerge, CanJoin, keptUnfinished, withUnfinished, withoutLast, storedStroke}
+use Rattle.strokes.specs.StateRead.{strokeWith}
+use Rattle.strokes.specs.Code.BarSteps.{HasUnfinished, CanMerge, CanJoin, keptUnfinished, withUnfinished, withoutLast, storedStroke}
 use Rattle.strokes.proofs.StoredRaw.{moved-down, init-take, last-take, passed, place-in}
 
 -- every column of a store of n places has room for as many as n

@@ -1,6 +1,5 @@
-pub mod Stored
-pub mod ElementCounts
-pub mod StoreSteps
-pub mod StrokeStore
-pub mod StoreStepCases
-pub mod StrokeStoreCases
+pub mod Lent
+pub mod StateRead
+pub mod FractalRows
+pub mod Packed
+pub mod Code

@@ -1,17 +1,20 @@
 // The stand and its lent stores, and the writing steps of update_bar on them.
+mod fractal_rows;
+mod packed;
 mod raw_store;
 mod strokes_store;
 mod unfinished_store;
 
+pub use fractal_rows::direction_of;
+pub use fractal_rows::end_index;
+pub use fractal_rows::row_mark;
+pub use packed::pack;
+pub use packed::unpack;
 pub use raw_store::count_before;
 pub use strokes_store::LastStroke;
 pub use strokes_store::Written;
 pub use strokes_store::last_stroke;
-pub use strokes_store::make_stroke;
-pub use strokes_store::shed;
-pub use strokes_store::shed_if;
 pub use strokes_store::total_bars;
-pub use strokes_store::without_last;
 
 // How many bars each lent store takes.
 pub struct Rooms {

@@ -5,9 +5,10 @@ ghost use Prim.Native.Nat.{_<_, _≤_};
 ghost use lib.ListN.{length, take};
 ghost use lib.Signed.{ltZ};
 ghost use Rattle.bars.specs.Lists.{skipWhile};
-ghost use Rattle.stores.specs.Stores.{rawStore, SizedRaw, placeOf};
+ghost use Rattle.stores.specs.Code.StoreRows.{SizedRaw, placeOf};
 ghost use Rattle.machine.specs.Feed.{rawWith};
-ghost use Rattle.strokes.specs.StoreSteps.{HasRaw, keptRaw, rawOnly};
+ghost use Rattle.strokes.specs.Code.BarSteps.{HasRaw, keptRaw, rawOnly};
+ghost use Rattle.stores.specs.Lent.{rawHeld, rawBefore, rawAfter};
 use crate::Stand;
 use bars::Bar;
 
@@ -38,8 +39,8 @@ impl Stand {
         later: bool,
         b: Bar,
     ) -> Stand
-        requires { ⌜ SizedRaw (rawStore (now rt) (now ri) (now rp)) (self .rooms .raw) ⌝ ∗ ⌜ self .raw ≤ self .rooms .raw ⌝ ∗ ⌜ (later ≡ true → self .raw < self .rooms .raw) ⌝ ∗ ⌜ (later ≡ false → 1 ≤ self .raw) ⌝ }
-        ensures { λ r. ⌜ HasRaw self r (rawStore (now (rt .exit)) (now (ri .exit)) (now (rp .exit))) (rawWith later (rawOnly (keptRaw self (rawStore (now (rt .entry)) (now (ri .entry)) (now (rp .entry))))) b) ⌝ }
+        requires { ⌜ SizedRaw (rawHeld rt ri rp) (self .rooms .raw) ⌝ ∗ ⌜ self .raw ≤ self .rooms .raw ⌝ ∗ ⌜ (later ≡ true → self .raw < self .rooms .raw) ⌝ ∗ ⌜ (later ≡ false → 1 ≤ self .raw) ⌝ }
+        ensures { λ r. ⌜ HasRaw self r (rawAfter rt ri rp) (rawWith later (rawOnly (keptRaw self (rawBefore rt ri rp))) b) ⌝ }
     {
         let n = self.raw;
         let mut stand = self;
@@ -54,8 +55,8 @@ impl Stand {
 
     // The raw bars earlier than t are dropped, and the others begin the store. Mostly there are none, and nothing is moved.
     pub fn drop_raw(self, rt: &mut [i64], ri: &mut [i32], rp: &mut [[f64; 6]], t: i64) -> Stand
-        requires { ⌜ SizedRaw (rawStore (now rt) (now ri) (now rp)) (self .rooms .raw) ⌝ ∗ ⌜ self .raw ≤ self .rooms .raw ⌝ }
-        ensures { λ r. ⌜ HasRaw self r (rawStore (now (rt .exit)) (now (ri .exit)) (now (rp .exit))) (skipWhile (λ k. ltZ (k .time) t) (keptRaw self (rawStore (now (rt .entry)) (now (ri .entry)) (now (rp .entry))))) ⌝ }
+        requires { ⌜ SizedRaw (rawHeld rt ri rp) (self .rooms .raw) ⌝ ∗ ⌜ self .raw ≤ self .rooms .raw ⌝ }
+        ensures { λ r. ⌜ HasRaw self r (rawAfter rt ri rp) (skipWhile (λ k. ltZ (k .time) t) (keptRaw self (rawBefore rt ri rp))) ⌝ }
     {
         let n = self.raw;
         let k = count_before(rt, n, t);

@@ -1,19 +1,21 @@
 // The lent store of strokes: the merged bars of the kept strokes, oldest first, and their fractals.
 ghost use mathlib.Core.Path.{_≡_};
-ghost use Prim.Native.Nat.{_+_, _-_, _*_, _/_, _≤_, _<_};
+ghost use Prim.Native.Nat.{_+_, _-_, _/_, _≤_, _<_};
 ghost use mathlib.Core.List.{[], _∷_, _++_};
 ghost use lib.ListN.{length, take, drop};
 ghost use Rattle.bars.specs.Lists.{copied};
-ghost use Rattle.stores.specs.Stores.{rawStore, mergedStore, RoomRaw, RoomMerged, MovedToStart};
-ghost use Rattle.strokes.specs.Stored.{fractalStore, barCounts, fractalCounts, total};
+ghost use Rattle.stores.specs.Code.StoreRows.{RoomRaw, RoomMerged, MovedToStart};
+ghost use Rattle.strokes.specs.StateRead.{barCounts, fractalCounts, total};
+ghost use Rattle.strokes.specs.Lent.{fractalsHeld, fractalsBefore, fractalsAfter};
 ghost use Rattle.machine.specs.Fractals.{taken};
-ghost use Rattle.machine.specs.Strokes.{directionOf};
-ghost use Rattle.check_bi.specs.Scan.{candleOf};
-ghost use Rattle.strokes.specs.StrokeStore.{setFractal, RoomFractals, plainBar, fractalsOf, putFractals, lastOf, writing, putFractal, putWindow};
-ghost use Rattle.strokes.specs.StoreSteps.{withoutLast};
-ghost use Rattle.strokes.specs.StrokeStore.{rowMark, LastStands, lastRead, Kept, Makeable, Made, ShedWhere, copiedFractals, shifted, shedStand, withStroke, windowsEnd};
+ghost use Rattle.check_bi.specs.Code.Scan.{candleOf};
+ghost use Rattle.strokes.specs.Code.StrokeSteps.{setFractal, RoomFractals, plainBar, fractalsBetween, lastOf, writing, putFractal, putWindow, LastStands, lastRead, Kept, Makeable, Made, ShedWhere, copiedFractals, shifted, shedStand, withStroke, windowsEnd};
+ghost use Rattle.strokes.specs.FractalRows.{putFractals};
 ghost use mathlib.Core.Bool.{true};
 ghost use lib.Dec.{ltb};
+ghost use Rattle.stores.specs.Lent.{rawHeld, rawBefore, mergedHeld, mergedBefore, mergedAfter};
+use super::fractal_rows::end_index;
+use super::fractal_rows::row_direction;
 use crate::Stand;
 use bars::Bar;
 use check_bi::Candle;
@@ -48,8 +50,8 @@ fn widened(id: i32) -> i64
 
 // The rows of the fractal of these three bars.
 fn write_fractal(fs: &mut [[i64; 6]], fp: &mut [[f64; 18]], at: usize, a: Bar, b: Bar, c: Bar)
-    requires { ⌜ RoomFractals (fractalStore (now fs) (now fp)) (at + 1) ⌝ }
-    ensures { λ _. ⌜ (fractalStore (now (fs .exit)) (now (fp .exit))) ≡ setFractal (fractalStore (now (fs .entry)) (now (fp .entry))) at a b c ⌝ }
+    requires { ⌜ RoomFractals (fractalsHeld fs fp) (at + 1) ⌝ }
+    ensures { λ _. ⌜ (fractalsAfter fs fp) ≡ setFractal (fractalsBefore fs fp) at a b c ⌝ }
 {
     let t = a.time;
     let u = b.time;
@@ -113,7 +115,7 @@ fn put_fractal(
     b: Bar,
     c: Bar,
 ) -> Written
-    requires { ⌜ RoomFractals (fractalStore (now fs) (now fp)) (at + w .count + 1) ⌝ }
+    requires { ⌜ RoomFractals (fractalsHeld fs fp) (at + w .count + 1) ⌝ }
     ensures { λ r. ⌜ writing (now (fs .exit)) (now (fp .exit)) r ≡ putFractal (writing (now (fs .entry)) (now (fp .entry)) w) at m a b c ⌝ }
 {
     if is_taken(w, m) {
@@ -137,7 +139,7 @@ fn put_window(
     b: Bar,
     c: Bar,
 ) -> Written
-    requires { ⌜ RoomFractals (fractalStore (now fs) (now fp)) (at + w .count + 1) ⌝ }
+    requires { ⌜ RoomFractals (fractalsHeld fs fp) (at + w .count + 1) ⌝ }
     ensures { λ r. ⌜ writing (now (fs .exit)) (now (fp .exit)) r ≡ putWindow (writing (now (fs .entry)) (now (fp .entry)) w) at a b c ⌝ }
 {
     let x = candle_of(a);
@@ -154,8 +156,8 @@ fn put_window(
     w
 }
 
-// check_fxs of the bars from place `first` on and before place `end`, written from place `at` on: how many there are.
-pub fn write_fractals(
+// check_fxs of the source, of the bars from place `first` on and before place `end`, written from place `at` on: how many there are.
+pub fn check_fxs(
     ut: &[i64],
     ui: &[i32],
     up: &[[f64; 6]],
@@ -165,8 +167,8 @@ pub fn write_fractals(
     fp: &mut [[f64; 18]],
     at: usize,
 ) -> usize
-    requires { ⌜ first ≤ end ⌝ ∗ ⌜ RoomRaw (rawStore (now ut) (now ui) (now up)) end ⌝ ∗ ⌜ RoomFractals (fractalStore (now fs) (now fp)) (at + (end - first) - 2) ⌝ }
-    ensures { λ r. ⌜ (r ≡ length (fractalsOf (rawStore (now (ut .entry)) (now (ui .entry)) (now (up .entry))) first end)) × ((fractalStore (now (fs .exit)) (now (fp .exit))) ≡ putFractals (fractalStore (now (fs .entry)) (now (fp .entry))) at (fractalsOf (rawStore (now (ut .entry)) (now (ui .entry)) (now (up .entry))) first end)) ⌝ }
+    requires { ⌜ first ≤ end ⌝ ∗ ⌜ RoomRaw (rawHeld ut ui up) end ⌝ ∗ ⌜ RoomFractals (fractalsHeld fs fp) (at + (end - first) - 2) ⌝ }
+    ensures { λ r. ⌜ (r ≡ length (fractalsBetween (rawBefore ut ui up) first end)) × ((fractalsAfter fs fp) ≡ putFractals (fractalsBefore fs fp) at (fractalsBetween (rawBefore ut ui up) first end)) ⌝ }
 {
     let last = Mark::D;
     let mut w = Written { count: 0, last };
@@ -296,57 +298,15 @@ fn move_strokes_down(
     from: usize,
     n: usize,
 )
-    requires { ⌜ RoomMerged (mergedStore (now st) (now si) (now sp) (now sc) (now se)) (from + n) ⌝ ∗ ⌜ RoomFractals (fractalStore (now fs) (now fp)) (from + n) ⌝ }
-    ensures { λ _. ⌜ MovedToStart (mergedStore (now (st .entry)) (now (si .entry)) (now (sp .entry)) (now (sc .entry)) (now (se .entry))) from n (mergedStore (now (st .exit)) (now (si .exit)) (now (sp .exit)) (now (sc .exit)) (now (se .exit))) × ((fractalStore (now (fs .exit)) (now (fp .exit))) ≡ copiedFractals (fractalStore (now (fs .entry)) (now (fp .entry))) 0 (fractalStore (now (fs .entry)) (now (fp .entry))) from n) ⌝ }
+    requires { ⌜ RoomMerged (mergedHeld st si sp sc se) (from + n) ⌝ ∗ ⌜ RoomFractals (fractalsHeld fs fp) (from + n) ⌝ }
+    ensures { λ _. ⌜ MovedToStart (mergedBefore st si sp sc se) from n (mergedAfter st si sp sc se) × ((fractalsAfter fs fp) ≡ copiedFractals (fractalsBefore fs fp) 0 (fractalsBefore fs fp) from n) ⌝ }
 {
     stores::move_new_bars_to_start(st, si, sp, sc, se, from, n);
     down_stamps(fs, from, 0, n);
     down_fractal_prices(fp, from, 0, n);
 }
 
-// The oldest stroke goes, and its bars and fractals with it.
-pub fn shed(
-    stand: Stand,
-    st: &mut [i64],
-    si: &mut [i32],
-    sp: &mut [[f64; 6]],
-    sc: &mut [usize],
-    se: &mut [[i64; 101]],
-    fs: &mut [[i64; 6]],
-    fp: &mut [[f64; 18]],
-) -> Stand
-    requires { ⌜ 1 ≤ stand .strokes ⌝ ∗ ⌜ Kept stand (mergedStore (now st) (now si) (now sp) (now sc) (now se)) (fractalStore (now fs) (now fp)) ⌝ }
-    ensures { λ r. ⌜ ShedWhere true stand (mergedStore (now (st .entry)) (now (si .entry)) (now (sp .entry)) (now (sc .entry)) (now (se .entry))) (fractalStore (now (fs .entry)) (now (fp .entry))) r (mergedStore (now (st .exit)) (now (si .exit)) (now (sp .exit)) (now (sc .exit)) (now (se .exit))) (fractalStore (now (fs .exit)) (now (fp .exit))) ⌝ }
-{
-    let bars = stand.bars;
-    let n = stand.strokes;
-    let used = total_bars(bars, n);
-    let first = bars[0];
-    move_strokes_down(st, si, sp, sc, se, fs, fp, first, used - first);
-    shed_counts(stand)
-}
-
-// The oldest stroke beyond the most goes.
-pub fn shed_if(
-    stand: Stand,
-    st: &mut [i64],
-    si: &mut [i32],
-    sp: &mut [[f64; 6]],
-    sc: &mut [usize],
-    se: &mut [[i64; 101]],
-    fs: &mut [[i64; 6]],
-    fp: &mut [[f64; 18]],
-) -> Stand
-    requires { ⌜ Kept stand (mergedStore (now st) (now si) (now sp) (now sc) (now se)) (fractalStore (now fs) (now fp)) ⌝ }
-    ensures { λ r. ⌜ ShedWhere (ltb (stand .most) (stand .strokes)) stand (mergedStore (now (st .entry)) (now (si .entry)) (now (sp .entry)) (now (sc .entry)) (now (se .entry))) (fractalStore (now (fs .entry)) (now (fp .entry))) r (mergedStore (now (st .exit)) (now (si .exit)) (now (sp .exit)) (now (sc .exit)) (now (se .exit))) (fractalStore (now (fs .exit)) (now (fp .exit))) ⌝ }
-{
-    if stand.most < stand.strokes {
-        return shed(stand, st, si, sp, sc, se, fs, fp);
-    }
-    stand
-}
-
-// ---- a stroke is made
+// ---- the stand with a stroke more or less
 
 // Where the windows of a stroke's fractals end.
 fn windows_end(first: usize, bars: usize, n: usize) -> usize
@@ -360,74 +320,7 @@ fn windows_end(first: usize, bars: usize, n: usize) -> usize
     end
 }
 
-// The unfinished bars from place `first` on, so many, become a stroke: they and their fractals are put behind those of the kept strokes.
-pub fn make_stroke(
-    stand: Stand,
-    ut: &[i64],
-    ui: &[i32],
-    up: &[[f64; 6]],
-    uc: &[usize],
-    ue: &[[i64; 101]],
-    st: &mut [i64],
-    si: &mut [i32],
-    sp: &mut [[f64; 6]],
-    sc: &mut [usize],
-    se: &mut [[i64; 101]],
-    fs: &mut [[i64; 6]],
-    fp: &mut [[f64; 18]],
-    first: usize,
-    bars: usize,
-) -> Stand
-    requires { ⌜ Makeable stand (mergedStore (now ut) (now ui) (now up) (now uc) (now ue)) first bars ⌝ ∗ ⌜ Kept stand (mergedStore (now st) (now si) (now sp) (now sc) (now se)) (fractalStore (now fs) (now fp)) ⌝ }
-    ensures { λ r. ⌜ Made stand (mergedStore (now (ut .entry)) (now (ui .entry)) (now (up .entry)) (now (uc .entry)) (now (ue .entry))) (mergedStore (now (st .entry)) (now (si .entry)) (now (sp .entry)) (now (sc .entry)) (now (se .entry))) (fractalStore (now (fs .entry)) (now (fp .entry))) first bars r (mergedStore (now (st .exit)) (now (si .exit)) (now (sp .exit)) (now (sc .exit)) (now (se .exit))) (fractalStore (now (fs .exit)) (now (fp .exit))) ⌝ }
-{
-    let counts = stand.bars;
-    let k = stand.strokes;
-    let n = stand.unfinished;
-    let used = total_bars(counts, k);
-    let end = windows_end(first, bars, n);
-    stores::join_new_bars(ut, ui, up, uc, ue, first, st, si, sp, sc, se, used, bars);
-    let m = write_fractals(ut, ui, up, first, end, fs, fp, used);
-    with_stroke(stand, bars, m)
-}
-
 // ---- the last stroke
-
-// The way of a stroke that starts on the fractal of this row.
-fn row_direction(p: [f64; 18]) -> Direction
-    ensures { λ r. ⌜ r ≡ directionOf (rowMark p) ⌝ }
-{
-    let x = Candle {
-        time: 0,
-        high: p[2],
-        low: p[3],
-    };
-    let y = Candle {
-        time: 0,
-        high: p[8],
-        low: p[9],
-    };
-    let z = Candle {
-        time: 0,
-        high: p[14],
-        low: p[15],
-    };
-    if check_bi::is_top(x, y, z) {
-        return Direction::Down;
-    }
-    Direction::Up
-}
-
-// Which of a stroke's m fractals is its end: the last, or the last but one where they are odd in number.
-fn end_index(m: usize) -> usize
-    ensures { λ r. ⌜ r ≡ 2 * (m / 2) - 1 ⌝ }
-{
-    let half = m / 2;
-    if half == 0 {
-        return 0;
-    }
-    2 * half - 1
-}
 
 pub fn last_stroke(stand: Stand, st: &[i64], fp: &[[f64; 18]]) -> LastStroke
     requires { ⌜ LastStands stand (length (now st)) ⌝ ∗ ⌜ length (now fp) ≡ length (now st) ⌝ }
@@ -458,22 +351,77 @@ pub fn last_stroke(stand: Stand, st: &[i64], fp: &[[f64; 18]]) -> LastStroke
     }
 }
 
-// The last stroke goes. Its rows stay where they are, and count no more.
-pub fn without_last(stand: Stand) -> Stand
-    requires { ⌜ 1 ≤ stand .strokes ⌝ }
-    ensures { λ r. ⌜ r ≡ withoutLast stand ⌝ }
-{
-    let bars = stand.bars;
-    let fractals = stand.fractals;
-    let rooms = stand.rooms;
-    Stand {
-        minimum: stand.minimum,
-        most: stand.most,
-        rooms: rooms,
-        raw: stand.raw,
-        unfinished: stand.unfinished,
-        strokes: stand.strokes - 1,
-        bars: bars,
-        fractals: fractals,
+impl Stand {
+    // The oldest stroke goes, and its bars and fractals with it.
+    pub fn shed(
+        self,
+        st: &mut [i64],
+        si: &mut [i32],
+        sp: &mut [[f64; 6]],
+        sc: &mut [usize],
+        se: &mut [[i64; 101]],
+        fs: &mut [[i64; 6]],
+        fp: &mut [[f64; 18]],
+    ) -> Stand
+        requires { ⌜ 1 ≤ self .strokes ⌝ ∗ ⌜ Kept self (mergedHeld st si sp sc se) (fractalsHeld fs fp) ⌝ }
+        ensures { λ r. ⌜ ShedWhere true self (mergedBefore st si sp sc se) (fractalsBefore fs fp) r (mergedAfter st si sp sc se) (fractalsAfter fs fp) ⌝ }
+    {
+        let bars = self.bars;
+        let n = self.strokes;
+        let used = total_bars(bars, n);
+        let first = bars[0];
+        move_strokes_down(st, si, sp, sc, se, fs, fp, first, used - first);
+        shed_counts(self)
+    }
+
+    // The oldest stroke beyond the most goes.
+    pub fn shed_if(
+        self,
+        st: &mut [i64],
+        si: &mut [i32],
+        sp: &mut [[f64; 6]],
+        sc: &mut [usize],
+        se: &mut [[i64; 101]],
+        fs: &mut [[i64; 6]],
+        fp: &mut [[f64; 18]],
+    ) -> Stand
+        requires { ⌜ Kept self (mergedHeld st si sp sc se) (fractalsHeld fs fp) ⌝ }
+        ensures { λ r. ⌜ ShedWhere (ltb (self .most) (self .strokes)) self (mergedBefore st si sp sc se) (fractalsBefore fs fp) r (mergedAfter st si sp sc se) (fractalsAfter fs fp) ⌝ }
+    {
+        if self.most < self.strokes {
+            return self.shed(st, si, sp, sc, se, fs, fp);
+        }
+        self
+    }
+
+    // The unfinished bars from place `first` on, so many, become a stroke: they and their fractals are put behind those of the kept strokes.
+    pub fn make_stroke(
+        self,
+        ut: &[i64],
+        ui: &[i32],
+        up: &[[f64; 6]],
+        uc: &[usize],
+        ue: &[[i64; 101]],
+        st: &mut [i64],
+        si: &mut [i32],
+        sp: &mut [[f64; 6]],
+        sc: &mut [usize],
+        se: &mut [[i64; 101]],
+        fs: &mut [[i64; 6]],
+        fp: &mut [[f64; 18]],
+        first: usize,
+        bars: usize,
+    ) -> Stand
+        requires { ⌜ Makeable self (mergedHeld ut ui up uc ue) first bars ⌝ ∗ ⌜ Kept self (mergedHeld st si sp sc se) (fractalsHeld fs fp) ⌝ }
+        ensures { λ r. ⌜ Made self (mergedBefore ut ui up uc ue) (mergedBefore st si sp sc se) (fractalsBefore fs fp) first bars r (mergedAfter st si sp sc se) (fractalsAfter fs fp) ⌝ }
+    {
+        let counts = self.bars;
+        let k = self.strokes;
+        let n = self.unfinished;
+        let used = total_bars(counts, k);
+        let end = windows_end(first, bars, n);
+        stores::join_new_bars(ut, ui, up, uc, ue, first, st, si, sp, sc, se, used, bars);
+        let m = check_fxs(ut, ui, up, first, end, fs, fp, used);
+        with_stroke(self, bars, m)
     }
 }

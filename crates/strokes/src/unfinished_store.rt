@@ -4,12 +4,13 @@ ghost use mathlib.Core.List.{[], _∷_};
 ghost use Prim.Native.Nat.{_+_, _≤_};
 ghost use lib.ListN.{drop};
 ghost use lib.Dec.{T};
-ghost use Rattle.stores.specs.Stores.{rawStore, mergedStore, SizedMerged, RoomMerged, copiedMerged};
+ghost use Rattle.stores.specs.Code.StoreRows.{SizedMerged, RoomMerged, copiedMerged};
 ghost use Rattle.bars.specs.Merging.{mergeIn, mergeAll, atTimes};
 ghost use Rattle.machine.specs.Break.{joined};
-ghost use Rattle.strokes.specs.StoreSteps.{HasUnfinished, CanMerge, RisingRaw, LastHas, CanJoin, mergedAgain, keptRaw, keptUnfinished, withoutLast, storedStroke};
-ghost use Rattle.strokes.specs.Stored.{elementsSized};
-ghost use Rattle.strokes.specs.ElementCounts.{StaySized};
+ghost use Rattle.strokes.specs.Code.BarSteps.{HasUnfinished, CanMerge, RisingRaw, LastHas, CanJoin, mergedAgain, keptRaw, keptUnfinished, withoutLast, storedStroke};
+ghost use Rattle.strokes.specs.StateRead.{elementsSized};
+ghost use Rattle.strokes.specs.Code.ElementCounts.{StaySized};
+ghost use Rattle.stores.specs.Lent.{rawHeld, rawBefore, mergedHeld, mergedBefore, mergedAfter};
 use crate::Stand;
 use crate::count_before;
 use bars::Bar;
@@ -25,8 +26,8 @@ fn bring_down(
     at: usize,
     n: usize,
 )
-    requires { ⌜ at ≤ from ⌝ ∗ ⌜ RoomMerged (mergedStore (now ut) (now ui) (now up) (now uc) (now ue)) (from + n) ⌝ }
-    ensures { λ _. ⌜ (mergedStore (now (ut .exit)) (now (ui .exit)) (now (up .exit)) (now (uc .exit)) (now (ue .exit))) ≡ copiedMerged (mergedStore (now (ut .entry)) (now (ui .entry)) (now (up .entry)) (now (uc .entry)) (now (ue .entry))) at (mergedStore (now (ut .entry)) (now (ui .entry)) (now (up .entry)) (now (uc .entry)) (now (ue .entry))) from n ⌝ }
+    requires { ⌜ at ≤ from ⌝ ∗ ⌜ RoomMerged (mergedHeld ut ui up uc ue) (from + n) ⌝ }
+    ensures { λ _. ⌜ (mergedAfter ut ui up uc ue) ≡ copiedMerged (mergedBefore ut ui up uc ue) at (mergedBefore ut ui up uc ue) from n ⌝ }
 {
     stores::move_new_bars_down(
         &mut ut[at..],
@@ -51,8 +52,8 @@ fn bring_up(
     at: usize,
     n: usize,
 )
-    requires { ⌜ from ≤ at ⌝ ∗ ⌜ RoomMerged (mergedStore (now ut) (now ui) (now up) (now uc) (now ue)) (at + n) ⌝ }
-    ensures { λ _. ⌜ (mergedStore (now (ut .exit)) (now (ui .exit)) (now (up .exit)) (now (uc .exit)) (now (ue .exit))) ≡ copiedMerged (mergedStore (now (ut .entry)) (now (ui .entry)) (now (up .entry)) (now (uc .entry)) (now (ue .entry))) at (mergedStore (now (ut .entry)) (now (ui .entry)) (now (up .entry)) (now (uc .entry)) (now (ue .entry))) from n ⌝ }
+    requires { ⌜ from ≤ at ⌝ ∗ ⌜ RoomMerged (mergedHeld ut ui up uc ue) (at + n) ⌝ }
+    ensures { λ _. ⌜ (mergedAfter ut ui up uc ue) ≡ copiedMerged (mergedBefore ut ui up uc ue) at (mergedBefore ut ui up uc ue) from n ⌝ }
 {
     stores::move_new_bars_up(
         &mut ut[from..],
@@ -77,8 +78,8 @@ fn bring(
     at: usize,
     n: usize,
 )
-    requires { ⌜ RoomMerged (mergedStore (now ut) (now ui) (now up) (now uc) (now ue)) (from + n) ⌝ ∗ ⌜ RoomMerged (mergedStore (now ut) (now ui) (now up) (now uc) (now ue)) (at + n) ⌝ }
-    ensures { λ _. ⌜ (mergedStore (now (ut .exit)) (now (ui .exit)) (now (up .exit)) (now (uc .exit)) (now (ue .exit))) ≡ copiedMerged (mergedStore (now (ut .entry)) (now (ui .entry)) (now (up .entry)) (now (uc .entry)) (now (ue .entry))) at (mergedStore (now (ut .entry)) (now (ui .entry)) (now (up .entry)) (now (uc .entry)) (now (ue .entry))) from n ⌝ }
+    requires { ⌜ RoomMerged (mergedHeld ut ui up uc ue) (from + n) ⌝ ∗ ⌜ RoomMerged (mergedHeld ut ui up uc ue) (at + n) ⌝ }
+    ensures { λ _. ⌜ (mergedAfter ut ui up uc ue) ≡ copiedMerged (mergedBefore ut ui up uc ue) at (mergedBefore ut ui up uc ue) from n ⌝ }
 {
     if from < at {
         bring_up(ut, ui, up, uc, ue, from, at, n);
@@ -98,8 +99,8 @@ impl Stand {
         ue: &mut [[i64; 101]],
         k: usize,
     ) -> Stand
-        requires { ⌜ SizedMerged (mergedStore (now ut) (now ui) (now up) (now uc) (now ue)) (self .rooms .unfinished) ⌝ ∗ ⌜ self .unfinished ≤ self .rooms .unfinished ⌝ ∗ ⌜ k ≤ self .unfinished ⌝ }
-        ensures { λ r. ⌜ (HasUnfinished self r (mergedStore (now (ut .exit)) (now (ui .exit)) (now (up .exit)) (now (uc .exit)) (now (ue .exit))) (drop k (keptUnfinished self (mergedStore (now (ut .entry)) (now (ui .entry)) (now (up .entry)) (now (uc .entry)) (now (ue .entry)))))) × (StaySized (self .unfinished) (mergedStore (now (ut .entry)) (now (ui .entry)) (now (up .entry)) (now (uc .entry)) (now (ue .entry))) (r .unfinished) (mergedStore (now (ut .exit)) (now (ui .exit)) (now (up .exit)) (now (uc .exit)) (now (ue .exit)))) ⌝ }
+        requires { ⌜ SizedMerged (mergedHeld ut ui up uc ue) (self .rooms .unfinished) ⌝ ∗ ⌜ self .unfinished ≤ self .rooms .unfinished ⌝ ∗ ⌜ k ≤ self .unfinished ⌝ }
+        ensures { λ r. ⌜ (HasUnfinished self r (mergedAfter ut ui up uc ue) (drop k (keptUnfinished self (mergedBefore ut ui up uc ue)))) × (StaySized (self .unfinished) (mergedBefore ut ui up uc ue) (r .unfinished) (mergedAfter ut ui up uc ue)) ⌝ }
     {
         let n = self.unfinished;
         let left = n - k;
@@ -119,8 +120,8 @@ impl Stand {
         ue: &mut [[i64; 101]],
         b: Bar,
     ) -> Stand
-        requires { ⌜ CanMerge self (mergedStore (now ut) (now ui) (now up) (now uc) (now ue)) (mergeIn (keptUnfinished self (mergedStore (now ut) (now ui) (now up) (now uc) (now ue))) b) ⌝ }
-        ensures { λ r. ⌜ (HasUnfinished self r (mergedStore (now (ut .exit)) (now (ui .exit)) (now (up .exit)) (now (uc .exit)) (now (ue .exit))) (mergeIn (keptUnfinished self (mergedStore (now (ut .entry)) (now (ui .entry)) (now (up .entry)) (now (uc .entry)) (now (ue .entry)))) b)) × (StaySized (self .unfinished) (mergedStore (now (ut .entry)) (now (ui .entry)) (now (up .entry)) (now (uc .entry)) (now (ue .entry))) (r .unfinished) (mergedStore (now (ut .exit)) (now (ui .exit)) (now (up .exit)) (now (uc .exit)) (now (ue .exit)))) ⌝ }
+        requires { ⌜ CanMerge self (mergedHeld ut ui up uc ue) (mergeIn (keptUnfinished self (mergedHeld ut ui up uc ue)) b) ⌝ }
+        ensures { λ r. ⌜ (HasUnfinished self r (mergedAfter ut ui up uc ue) (mergeIn (keptUnfinished self (mergedBefore ut ui up uc ue)) b)) × (StaySized (self .unfinished) (mergedBefore ut ui up uc ue) (r .unfinished) (mergedAfter ut ui up uc ue)) ⌝ }
     {
         let n = self.unfinished;
         let mut stand = self;
@@ -156,8 +157,8 @@ impl Stand {
         ue: &mut [[i64; 101]],
         t: i64,
     ) -> Stand
-        requires { ⌜ RisingRaw self (rawStore (now rt) (now ri) (now rp)) ⌝ ∗ ⌜ CanMerge self (mergedStore (now ut) (now ui) (now up) (now uc) (now ue)) (mergeAll (keptUnfinished self (mergedStore (now ut) (now ui) (now up) (now uc) (now ue))) (atTimes (keptRaw self (rawStore (now rt) (now ri) (now rp))) (t ∷ []))) ⌝ }
-        ensures { λ r. ⌜ (HasUnfinished self r (mergedStore (now (ut .exit)) (now (ui .exit)) (now (up .exit)) (now (uc .exit)) (now (ue .exit))) (mergeAll (keptUnfinished self (mergedStore (now (ut .entry)) (now (ui .entry)) (now (up .entry)) (now (uc .entry)) (now (ue .entry)))) (atTimes (keptRaw self (rawStore (now (rt .entry)) (now (ri .entry)) (now (rp .entry)))) (t ∷ [])))) × (StaySized (self .unfinished) (mergedStore (now (ut .entry)) (now (ui .entry)) (now (up .entry)) (now (uc .entry)) (now (ue .entry))) (r .unfinished) (mergedStore (now (ut .exit)) (now (ui .exit)) (now (up .exit)) (now (uc .exit)) (now (ue .exit)))) ⌝ }
+        requires { ⌜ RisingRaw self (rawHeld rt ri rp) ⌝ ∗ ⌜ CanMerge self (mergedHeld ut ui up uc ue) (mergeAll (keptUnfinished self (mergedHeld ut ui up uc ue)) (atTimes (keptRaw self (rawHeld rt ri rp)) (t ∷ []))) ⌝ }
+        ensures { λ r. ⌜ (HasUnfinished self r (mergedAfter ut ui up uc ue) (mergeAll (keptUnfinished self (mergedBefore ut ui up uc ue)) (atTimes (keptRaw self (rawBefore rt ri rp)) (t ∷ [])))) × (StaySized (self .unfinished) (mergedBefore ut ui up uc ue) (r .unfinished) (mergedAfter ut ui up uc ue)) ⌝ }
     {
         let n = self.raw;
         let p = stores::find_time(rt, n, t);
@@ -185,8 +186,8 @@ impl Stand {
         ue: &mut [[i64; 101]],
         b: Bar,
     ) -> Stand
-        requires { ⌜ RisingRaw self (rawStore (now rt) (now ri) (now rp)) ⌝ ∗ ⌜ LastHas self (mergedStore (now ut) (now ui) (now up) (now uc) (now ue)) ⌝ ∗ ⌜ CanMerge self (mergedStore (now ut) (now ui) (now up) (now uc) (now ue)) (mergedAgain (keptRaw self (rawStore (now rt) (now ri) (now rp))) (keptUnfinished self (mergedStore (now ut) (now ui) (now up) (now uc) (now ue))) b) ⌝ }
-        ensures { λ r. ⌜ (HasUnfinished self r (mergedStore (now (ut .exit)) (now (ui .exit)) (now (up .exit)) (now (uc .exit)) (now (ue .exit))) (mergedAgain (keptRaw self (rawStore (now (rt .entry)) (now (ri .entry)) (now (rp .entry)))) (keptUnfinished self (mergedStore (now (ut .entry)) (now (ui .entry)) (now (up .entry)) (now (uc .entry)) (now (ue .entry)))) b)) × (StaySized (self .unfinished) (mergedStore (now (ut .entry)) (now (ui .entry)) (now (up .entry)) (now (uc .entry)) (now (ue .entry))) (r .unfinished) (mergedStore (now (ut .exit)) (now (ui .exit)) (now (up .exit)) (now (uc .exit)) (now (ue .exit)))) ⌝ }
+        requires { ⌜ RisingRaw self (rawHeld rt ri rp) ⌝ ∗ ⌜ LastHas self (mergedHeld ut ui up uc ue) ⌝ ∗ ⌜ CanMerge self (mergedHeld ut ui up uc ue) (mergedAgain (keptRaw self (rawHeld rt ri rp)) (keptUnfinished self (mergedHeld ut ui up uc ue)) b) ⌝ }
+        ensures { λ r. ⌜ (HasUnfinished self r (mergedAfter ut ui up uc ue) (mergedAgain (keptRaw self (rawBefore rt ri rp)) (keptUnfinished self (mergedBefore ut ui up uc ue)) b)) × (StaySized (self .unfinished) (mergedBefore ut ui up uc ue) (r .unfinished) (mergedAfter ut ui up uc ue)) ⌝ }
     {
         let n = self.unfinished;
         let at = n - 1;
@@ -221,8 +222,8 @@ impl Stand {
         at: usize,
         rows: usize,
     ) -> Stand
-        requires { ⌜ CanJoin self (mergedStore (now ut) (now ui) (now up) (now uc) (now ue)) (mergedStore (now st) (now si) (now sp) (now sc) (now se)) at rows ⌝ }
-        ensures { λ r. ⌜ (HasUnfinished (withoutLast self) r (mergedStore (now (ut .exit)) (now (ui .exit)) (now (up .exit)) (now (uc .exit)) (now (ue .exit))) (joined (storedStroke (mergedStore (now (st .entry)) (now (si .entry)) (now (sp .entry)) (now (sc .entry)) (now (se .entry))) at rows) (keptUnfinished self (mergedStore (now (ut .entry)) (now (ui .entry)) (now (up .entry)) (now (uc .entry)) (now (ue .entry)))))) × (T (elementsSized (at + rows) (mergedStore (now (st .entry)) (now (si .entry)) (now (sp .entry)) (now (sc .entry)) (now (se .entry)))) → StaySized (self .unfinished) (mergedStore (now (ut .entry)) (now (ui .entry)) (now (up .entry)) (now (uc .entry)) (now (ue .entry))) (r .unfinished) (mergedStore (now (ut .exit)) (now (ui .exit)) (now (up .exit)) (now (uc .exit)) (now (ue .exit)))) ⌝ }
+        requires { ⌜ CanJoin self (mergedHeld ut ui up uc ue) (mergedHeld st si sp sc se) at rows ⌝ }
+        ensures { λ r. ⌜ (HasUnfinished (withoutLast self) r (mergedAfter ut ui up uc ue) (joined (storedStroke (mergedBefore st si sp sc se) at rows) (keptUnfinished self (mergedBefore ut ui up uc ue)))) × (T (elementsSized (at + rows) (mergedBefore st si sp sc se)) → StaySized (self .unfinished) (mergedBefore ut ui up uc ue) (r .unfinished) (mergedAfter ut ui up uc ue)) ⌝ }
     {
         let n = self.unfinished;
         let kept = self.strokes - 1;

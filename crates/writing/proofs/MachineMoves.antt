@@ -18,18 +18,16 @@ use Rattle.machine.specs.Feed.{Moved, addFound, addMade, makeAfter, makeIf, mak
 use Rattle.machine.specs.Soundness.{alternates, sameFractal, isStroke}
 use Rattle.machine.proofs.Places.{fits}
 use Rattle.machine.proofs.FewerFractals.{nothingFound, end-stands, order}
-use Rattle.check_bi.specs.declared.scan.FoundBi.{FoundBi}
-use Rattle.check_bi.specs.Scan.{candleOf}
+use Rattle.check_bi.specs.Code.Scan.{candleOf}
 use Rattle.check_bi.proofs.ScanPlaces.{MadeAs, Means}
-use Rattle.strokes.specs.Stored.{bareStroke, strokeWith}
-use Rattle.strokes.specs.StrokeStore.{madeStroke}
+use Rattle.strokes.specs.StateRead.{bareStroke, strokeWith}
+use Rattle.strokes.specs.Code.StrokeSteps.{madeStroke}
 use Rattle.strokes.proofs.StoredStrokes.{found-is, made-cut, place-of}
-use Rattle.asking.specs.declared.plan.Last.{Last}
 use Rattle.asking.specs.declared.plan.Plan.{Plan}
-use Rattle.asking.specs.Asked.{lastOf, timeOr0}
-use Rattle.asking.proofs.PlanMeans.{LastIs, KeptLast, Planned, plan-means, add-unbroken}
-use Rattle.writing.specs.WriteSteps.{addIf, restOf}
-use Rattle.writing.specs.Written.{planWith}
+use Rattle.asking.specs.Code.Asked.{lastOf, timeOr0}
+use Rattle.asking.proofs.PlanMeans.{LastIs, Planned, plan-means, add-unbroken}
+use Rattle.writing.specs.Code.WriteSteps.{addIf, restOf}
+use Rattle.writing.specs.Code.Written.{planWith}
 
 -- ---- every stroke has at least two bars
 

@@ -11,32 +11,33 @@ use lib.Seq.{length-take-le, take-suc}
 use lib.Dec.{T, leb, leb→le, ltb}
 use Rattle.bars.specs.Bars.{Merged}
 use Rattle.bars.specs.Lists.{last, init}
-use Rattle.stores.specs.Stores.{MergedStore, SizedMerged, rawStore, mergedBars}
+use Rattle.stores.specs.Stores.{MergedStore, rawStore, mergedBars}
+use Rattle.stores.specs.Code.StoreRows.{SizedMerged}
 use Rattle.stores.proofs.Columns.{merged-length}
 use Rattle.machine.specs.Fractals.{Fractal}
 use Rattle.machine.specs.Strokes.{Stroke, checkBi}
 use Rattle.machine.specs.Break.{joined}
 use Rattle.machine.specs.Feed.{Moved, make, move, shedIf, shedCount}
 use Rattle.machine.specs.FeedQuestions.{joinedFits, movedFits}
-use Rattle.machine.specs.Soundness.{barsOf}
 use Rattle.machine.proofs.StrokesMeet.{last-append}
-use Rattle.check_bi.specs.Scan.{candleOf}
+use Rattle.check_bi.specs.Code.Scan.{candleOf}
 use Rattle.strokes.specs.declared.Stand.{Stand}
 use Rattle.strokes.specs.declared.Rooms.{Rooms}
-use Rattle.strokes.specs.Stored.{FractalStore, Stores, strokeWith, strokesWith, storedFractals, settingsOf, stateOf, barCounts, fractalCounts, total, elementsSized, bareStroke, bareState}
-use Rattle.strokes.specs.ElementCounts.{StaySized}
-use Rattle.strokes.specs.StoreSteps.{HasUnfinished, keptUnfinished, withUnfinished, withoutLast, storedStroke}
-use Rattle.strokes.specs.StrokeStore.{Kept, Unmoved, ShedWhere, keptStrokes, madeStroke, lastPlace, lastBars}
+use Rattle.strokes.specs.StateRead.{strokeWith, strokesWith, storedFractals, settingsOf, stateOf, barCounts, fractalCounts, total, elementsSized, bareStroke, bareState}
+use Rattle.strokes.specs.Lent.{FractalStore}
+use Rattle.strokes.specs.Code.ElementCounts.{StaySized}
+use Rattle.strokes.specs.Code.BarSteps.{HasUnfinished, keptUnfinished, withUnfinished, withoutLast, storedStroke}
+use Rattle.strokes.specs.Code.StrokeSteps.{Kept, ShedWhere, keptStrokes, madeStroke, lastPlace, lastBars}
 use Rattle.strokes.proofs.StoredStates.{kept-unfinished, joined-stored}
 use Rattle.strokes.proofs.StoredStrokes.{length-take-most, strokes-more, strokes-length, taken-off, shed-kept, take-before}
 use Rattle.strokes.proofs.StoredCounts.{stay-fewer}
 use Rattle.strokes.proofs.BareStates.{last-map, init-map, stored-bare}
 use Rattle.asking.specs.declared.plan.Plan.{Plan}
-use Rattle.asking.specs.Asked.{lastOf}
-use Rattle.asking.proofs.PlanMeans.{Planned, movedAs, lastStroke}
+use Rattle.asking.specs.Code.Asked.{lastOf}
+use Rattle.asking.proofs.PlanMeans.{movedAs, lastStroke}
 use Rattle.writing.specs.declared.Wrote.{Wrote}
-use Rattle.writing.specs.WriteSteps.{CanMake, MadeWhere, CanBreak, CanLeave, addIf, leftStand, leftBars, restOf}
-use Rattle.writing.specs.Written.{CanMove, HasLeft, HasMoved, madeOf, movedOf, planWith, overOf}
+use Rattle.writing.specs.Code.WriteSteps.{CanMake, MadeWhere, CanBreak, CanLeave, addIf, leftStand, leftBars, restOf}
+use Rattle.writing.specs.Code.Written.{CanMove, HasLeft, HasMoved, madeOf, movedOf, planWith, overOf}
 use Rattle.writing.proofs.PlanInView.{rest-in-view}
 use Rattle.writing.proofs.StepLaws.{left-fits, left-rooms, last-sum}
 use Rattle.writing.proofs.MachineMoves.{Full, full-sound, full-last, full-init, Breaks, move-breaks, make-unbroken, HasPlan, has-plan, MakesAs, makes-as}

@@ -9,16 +9,15 @@ use lib.IntN.{ℤ}
 use lib.Dec.{eqb, leb, ltb}
 use Rattle.machine.specs.declared.Mark.the-variants.{D, G}
 use Rattle.machine.specs.Fractals.{sameMark, beyond}
-use Rattle.check_bi.specs.declared.scan.Candle.{Candle}
-use Rattle.check_bi.specs.declared.scan.Fx.{Fx}
+use Rattle.check_bi.specs.declared.check_fx.Candle.{Candle}
+use Rattle.check_bi.specs.declared.check_fx.Fx.{Fx}
 use Rattle.check_bi.specs.declared.scan.Scan.{Scan}
 use Rattle.check_bi.specs.declared.scan.FoundBi.{FoundBi}
-use Rattle.check_bi.specs.Scan.{valueOf, fxAt, cutWith, closesOf, putIf, putOf, noFx, blank, openedOf, takeIf, takeOf, topOf, bottomOf, stepIf, stepOf, scanFrom, scanOf, holdsOf, barsTo, foundIf, foundOf}
+use Rattle.check_bi.specs.Code.Scan.{valueOf, fxAt, cutWith, closesOf, putIf, putOf, noFx, blank, openedOf, takeIf, takeOf, topOf, bottomOf, stepIf, stepOf, scanFrom, scanOf, holdsOf, barsTo, foundIf, foundOf, foundFrom}
 use Rattle.check_bi.proofs.ScanViews.{best-place}
 use Rattle.asking.specs.declared.plan.Last.{Last}
-use Rattle.asking.specs.declared.plan.Plan.{Plan}
-use Rattle.asking.specs.FeedPlan.{cutOf, foundFrom, breaksOf, lastWith, keptOf, brokenIf, brokenOf, joinOf, timesOf, lastCandle, planIf, planOf}
-use Rattle.writing.specs.WriteSteps.{restOf}
+use Rattle.asking.specs.Code.FeedPlan.{cutOf, breaksOf, lastWith, keptOf, brokenIf, brokenOf, joinOf, timesOf, lastCandle, planIf, planOf}
+use Rattle.writing.specs.Code.WriteSteps.{restOf}
 
 -- ---- what a scan keeps lies among the windows that it has seen
 

@@ -3,13 +3,12 @@ use mathlib.Core.Bool.{Bool, true, false}
 use mathlib.Core.List.{List}
 use mathlib.Core.Path.{_≡_, refl, ap, sym, subst}
 use Rattle.bars.specs.declared.Bar.{Bar}
-use Rattle.bars.specs.Bars.{Merged}
 use Rattle.bars.specs.Merging.{mergeIn}
 use Rattle.stores.specs.Stores.{RawStore, MergedStore}
 use Rattle.machine.specs.Feed.{mergedWith}
 use Rattle.strokes.specs.declared.Stand.{Stand}
-use Rattle.strokes.specs.StoreSteps.{HasUnfinished, CanMerge, mergedAgain, keptRaw, keptUnfinished}
-use Rattle.writing.specs.WriteSteps.{CanPut, barsOnly, mergedFrom}
+use Rattle.strokes.specs.Code.BarSteps.{HasUnfinished, CanMerge, mergedAgain, keptRaw, keptUnfinished}
+use Rattle.writing.specs.Code.WriteSteps.{CanPut, barsOnly, mergedFrom}
 
 module _ (s : Stand) (m : RawStore) (u : MergedStore) (b : Bar) where
   from-later : (t : Bool) → t ≡ true → mergedFrom t s m u b ≡ mergeIn (keptUnfinished s u) b

@@ -11,17 +11,18 @@ use lib.Signed.{ltZ}
 use Rattle.bars.specs.declared.Bar.{Bar}
 use Rattle.bars.specs.Bars.{Merged}
 use Rattle.bars.specs.Lists.{skipWhile}
-use Rattle.stores.specs.Stores.{RawStore, MergedStore, SizedRaw, SizedMerged, rawBars, mergedBars}
+use Rattle.stores.specs.Stores.{RawStore, MergedStore, rawBars, mergedBars}
+use Rattle.stores.specs.Code.StoreRows.{SizedRaw, SizedMerged}
 use Rattle.stores.proofs.Columns.{raw-length, merged-length}
-use Rattle.machine.specs.Strokes.{Stroke}
 use Rattle.machine.specs.Break.{joined}
 use Rattle.strokes.specs.declared.Stand.{Stand}
-use Rattle.strokes.specs.Stored.{FractalStore, barCounts, total, elementsSized}
-use Rattle.strokes.specs.StoreSteps.{HasRaw, HasUnfinished, CanJoin, keptRaw, keptUnfinished, withRaw, withUnfinished, withoutLast, storedStroke}
-use Rattle.strokes.specs.StrokeStore.{Kept, Unmoved, Made, keptStrokes, madeStroke, lastPlace, lastBars}
+use Rattle.strokes.specs.StateRead.{barCounts, total, elementsSized}
+use Rattle.strokes.specs.Lent.{FractalStore}
+use Rattle.strokes.specs.Code.BarSteps.{HasRaw, HasUnfinished, CanJoin, keptRaw, keptUnfinished, withRaw, withUnfinished, withoutLast, storedStroke}
+use Rattle.strokes.specs.Code.StrokeSteps.{Kept, Made, lastPlace, lastBars}
 use Rattle.strokes.proofs.StoredStates.{kept-unfinished}
 use Rattle.strokes.proofs.StoredStrokes.{take-before, total-more}
-use Rattle.writing.specs.WriteSteps.{MadeWhere, CanBreak, addIf, leftStand, leftBars, dropEarlier}
+use Rattle.writing.specs.Code.WriteSteps.{MadeWhere, CanBreak, addIf, leftStand, leftBars, dropEarlier}
 
 -- ---- the unfinished bars begin at a place
 

@@ -15,7 +15,8 @@ use Rattle.bars.specs.declared.Bar.{Bar}
 use Rattle.bars.specs.Bars.{Merged}
 use Rattle.bars.specs.Lists.{every, last, skipWhile}
 use Rattle.bars.specs.Questions.{firstFailed}
-use Rattle.stores.specs.Stores.{RawStore, MergedStore, SizedRaw, SizedMerged, rawPart, rawBars, mergedBars}
+use Rattle.stores.specs.Stores.{RawStore, MergedStore, rawPart, rawBars, mergedBars}
+use Rattle.stores.specs.Code.StoreRows.{SizedRaw, SizedMerged}
 use Rattle.stores.proofs.Columns.{merged-bars, raw-times}
 use Rattle.machine.specs.Fractals.{Fractal}
 use Rattle.machine.specs.Strokes.{Stroke}
@@ -25,21 +26,21 @@ use Rattle.machine.specs.FeedQuestions.{fewerIf, merged, movedFits, question10,
 use Rattle.machine.specs.Soundness.{barsOf, isStroke, strokesPass}
 use Rattle.strokes.specs.declared.Stand.{Stand}
 use Rattle.strokes.specs.declared.Rooms.{Rooms}
-use Rattle.strokes.specs.Stored.{FractalStore, Stores, strokeWith, strokesWith, storedFractals, settingsOf, stateOf, barCounts, fractalCounts, total, rawSized, mergedSized, fractalSized, storesSized, countsSized, elementsSized, sized, bareStroke, bareState}
-use Rattle.strokes.specs.ElementCounts.{StaySized}
-use Rattle.strokes.specs.StoreSteps.{HasRaw, HasUnfinished, keptRaw, keptUnfinished, rawOnly, withRaw, withUnfinished}
-use Rattle.strokes.specs.StrokeStore.{SizedFractals, Kept, keptStrokes}
+use Rattle.strokes.specs.StateRead.{strokeWith, strokesWith, storedFractals, settingsOf, stateOf, barCounts, fractalCounts, total, rawSized, mergedSized, fractalSized, storesSized, countsSized, elementsSized, sized, bareStroke, bareState}
+use Rattle.strokes.specs.Lent.{FractalStore, Stores, storesOf}
+use Rattle.strokes.specs.Code.ElementCounts.{StaySized}
+use Rattle.strokes.specs.Code.BarSteps.{HasRaw, HasUnfinished, keptRaw, keptUnfinished, rawOnly, withRaw}
+use Rattle.strokes.specs.Code.StrokeSteps.{SizedFractals, Kept, keptStrokes}
 use Rattle.strokes.proofs.StoredRaw.{raw-with-only}
 use Rattle.strokes.proofs.StoredStates.{state-raw}
 use Rattle.strokes.proofs.StoredStrokes.{kept-state}
-use Rattle.sound.specs.SoundStand.{storesOf}
 use Rattle.sound.proofs.SoundFacts.{Facts, facts}
-use Rattle.sound.proofs.SoundScans.{holds}
+use Rattle.arith.proofs.Tests.{holds}
 use Rattle.asking.specs.declared.plan.Plan.{Plan}
-use Rattle.asking.specs.Asked.{planFor}
+use Rattle.asking.specs.Code.Asked.{planFor}
 use Rattle.writing.specs.declared.Wrote.{Wrote}
-use Rattle.writing.specs.WriteSteps.{CanPut, CanKeep, barsOnly, mergedFrom, dropEarlier}
-use Rattle.writing.specs.Written.{CanMove, HasMoved, CanWrite, IsWritten, madeOf, movedOf, planWith, overOf}
+use Rattle.writing.specs.Code.WriteSteps.{CanPut, CanKeep, barsOnly, mergedFrom, dropEarlier}
+use Rattle.writing.specs.Code.Written.{CanMove, HasMoved, CanWrite, IsWritten, madeOf, movedOf, planWith, overOf}
 use Rattle.writing.proofs.StepLaws.{left-fits, left-rooms, raw-rooms, raw-fits}
 use Rattle.writing.proofs.MachineMoves.{Full, full-shed}
 use Rattle.writing.proofs.MoveLaws.{strokes-many, after-kept, after-strokes, after-counts, after-settings, after-raw-count, after-strokes-count, full-moved, few-moved}

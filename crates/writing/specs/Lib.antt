@@ -1,2 +1,1 @@
-pub mod WriteSteps
-pub mod Written
+pub mod Code

@@ -1,11 +1,9 @@
 // What a feed of a bar that passed its questions writes to the lent stores.
-ghost use Rattle.stores.specs.Stores.{rawStore, mergedStore};
-ghost use Rattle.sound.specs.SoundStand.{storesOf};
-ghost use Rattle.strokes.specs.Stored.{fractalStore};
-ghost use Rattle.writing.specs.Written.{CanWrite, IsWritten};
+ghost use Rattle.strokes.specs.Lent.{held, before, after};
+ghost use Rattle.writing.specs.Code.Written.{CanWrite, IsWritten};
 use crate::Wrote;
 use crate::raw_moves::keep_raw;
-use crate::stroke_moves::move_strokes;
+use crate::stroke_moves::update_bi;
 use crate::unfinished_moves::put_bar;
 use asking::Plan;
 use bars::Bar;
@@ -33,11 +31,11 @@ pub fn write(
     plan: Plan,
     b: Bar,
 ) -> Wrote
-    requires { ⌜ CanWrite stand (storesOf (rawStore (now rt) (now ri) (now rp)) (mergedStore (now ut) (now ui) (now up) (now uc) (now ue)) (mergedStore (now st) (now si) (now sp) (now sc) (now se)) (fractalStore (now fs) (now fp))) b later plan ⌝ }
-    ensures { λ r. ⌜ IsWritten stand (storesOf (rawStore (now (rt .entry)) (now (ri .entry)) (now (rp .entry))) (mergedStore (now (ut .entry)) (now (ui .entry)) (now (up .entry)) (now (uc .entry)) (now (ue .entry))) (mergedStore (now (st .entry)) (now (si .entry)) (now (sp .entry)) (now (sc .entry)) (now (se .entry))) (fractalStore (now (fs .entry)) (now (fp .entry)))) b r (storesOf (rawStore (now (rt .exit)) (now (ri .exit)) (now (rp .exit))) (mergedStore (now (ut .exit)) (now (ui .exit)) (now (up .exit)) (now (uc .exit)) (now (ue .exit))) (mergedStore (now (st .exit)) (now (si .exit)) (now (sp .exit)) (now (sc .exit)) (now (se .exit))) (fractalStore (now (fs .exit)) (now (fp .exit)))) ⌝ }
+    requires { ⌜ CanWrite stand (held rt ri rp ut ui up uc ue st si sp sc se fs fp) b later plan ⌝ }
+    ensures { λ r. ⌜ IsWritten stand (before rt ri rp ut ui up uc ue st si sp sc se fs fp) b r (after rt ri rp ut ui up uc ue st si sp sc se fs fp) ⌝ }
 {
     let put = put_bar(stand, rt, ri, rp, ut, ui, up, uc, ue, later, b);
-    let moved = move_strokes(put, ut, ui, up, uc, ue, st, si, sp, sc, se, fs, fp, plan);
+    let moved = update_bi(put, ut, ui, up, uc, ue, st, si, sp, sc, se, fs, fp, plan);
     let made = moved.made;
     let broken = moved.broken;
     let shed = moved.shed;

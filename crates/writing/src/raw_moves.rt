@@ -4,10 +4,10 @@ ghost use mathlib.Core.Bool.{true, false};
 ghost use Prim.Native.Nat.{_<_, _≤_};
 ghost use lib.ListN.{length, getD};
 ghost use lib.IntN.{pos};
-ghost use Rattle.stores.specs.Stores.{rawStore, SizedRaw};
 ghost use Rattle.machine.specs.Feed.{rawWith};
-ghost use Rattle.strokes.specs.StoreSteps.{HasRaw, keptRaw, rawOnly};
-ghost use Rattle.writing.specs.WriteSteps.{CanKeep, dropEarlier};
+ghost use Rattle.strokes.specs.Code.BarSteps.{HasRaw, keptRaw, rawOnly};
+ghost use Rattle.writing.specs.Code.WriteSteps.{CanKeep, dropEarlier};
+ghost use Rattle.stores.specs.Lent.{rawHeld, rawBefore, rawAfter};
 use bars::Bar;
 use strokes::Stand;
 
@@ -21,8 +21,8 @@ pub fn keep_raw(
     later: bool,
     b: Bar,
 ) -> Stand
-    requires { ⌜ CanKeep stand (rawStore (now rt) (now ri) (now rp)) (length (now st)) later ⌝ }
-    ensures { λ r. ⌜ HasRaw stand r (rawStore (now (rt .exit)) (now (ri .exit)) (now (rp .exit))) (dropEarlier (stand .strokes) (getD (now (st .entry)) 0 (pos 0)) (rawWith later (rawOnly (keptRaw stand (rawStore (now (rt .entry)) (now (ri .entry)) (now (rp .entry))))) b)) ⌝ }
+    requires { ⌜ CanKeep stand (rawHeld rt ri rp) (length (now st)) later ⌝ }
+    ensures { λ r. ⌜ HasRaw stand r (rawAfter rt ri rp) (dropEarlier (stand .strokes) (getD (now (st .entry)) 0 (pos 0)) (rawWith later (rawOnly (keptRaw stand (rawBefore rt ri rp))) b)) ⌝ }
 {
     let n = stand.strokes;
     let put = stand.put_raw(rt, ri, rp, later, b);

@@ -2,10 +2,10 @@
 ghost use mathlib.Core.Path.{_≡_};
 ghost use Prim.Native.Nat.{_+_};
 ghost use Rattle.machine.specs.Feed.{shedCount};
-ghost use Rattle.stores.specs.Stores.{mergedStore};
-ghost use Rattle.strokes.specs.Stored.{fractalStore};
-ghost use Rattle.writing.specs.WriteSteps.{CanMake, MadeWhere};
-ghost use Rattle.writing.specs.Written.{CanMove, HasLeft, HasMoved};
+ghost use Rattle.strokes.specs.Lent.{fractalsHeld, fractalsBefore, fractalsAfter};
+ghost use Rattle.writing.specs.Code.WriteSteps.{CanMake, MadeWhere};
+ghost use Rattle.writing.specs.Code.Written.{CanMove, HasLeft, HasMoved};
+ghost use Rattle.stores.specs.Lent.{mergedHeld, mergedBefore, mergedAfter};
 use crate::Wrote;
 use crate::unfinished_moves::leave;
 use asking::Plan;
@@ -28,8 +28,8 @@ pub fn make_if(
     fp: &mut [[f64; 18]],
     plan: Plan,
 ) -> Stand
-    requires { ⌜ CanMake stand (mergedStore (now ut) (now ui) (now up) (now uc) (now ue)) (mergedStore (now st) (now si) (now sp) (now sc) (now se)) (fractalStore (now fs) (now fp)) plan ⌝ }
-    ensures { λ r. ⌜ MadeWhere (plan .found .made) stand (mergedStore (now (ut .entry)) (now (ui .entry)) (now (up .entry)) (now (uc .entry)) (now (ue .entry))) (mergedStore (now (st .entry)) (now (si .entry)) (now (sp .entry)) (now (sc .entry)) (now (se .entry))) (fractalStore (now (fs .entry)) (now (fp .entry))) (plan .cut + plan .found .start .place) (plan .found .bars) r (mergedStore (now (st .exit)) (now (si .exit)) (now (sp .exit)) (now (sc .exit)) (now (se .exit))) (fractalStore (now (fs .exit)) (now (fp .exit))) ⌝ }
+    requires { ⌜ CanMake stand (mergedHeld ut ui up uc ue) (mergedHeld st si sp sc se) (fractalsHeld fs fp) plan ⌝ }
+    ensures { λ r. ⌜ MadeWhere (plan .found .made) stand (mergedBefore ut ui up uc ue) (mergedBefore st si sp sc se) (fractalsBefore fs fp) (plan .cut + plan .found .start .place) (plan .found .bars) r (mergedAfter st si sp sc se) (fractalsAfter fs fp) ⌝ }
 {
     let cut = plan.cut;
     let found = plan.found;
@@ -37,23 +37,7 @@ pub fn make_if(
     let bars = found.bars;
     if found.made {
         let first = cut + start.place;
-        return strokes::make_stroke(
-            stand,
-            ut,
-            ui,
-            up,
-            uc,
-            ue,
-            st,
-            si,
-            sp,
-            sc,
-            se,
-            fs,
-            fp,
-            first,
-            bars,
-        );
+        return stand.make_stroke(ut, ui, up, uc, ue, st, si, sp, sc, se, fs, fp, first, bars);
     }
     stand
 }
@@ -85,16 +69,16 @@ fn make_and_leave(
     fp: &mut [[f64; 18]],
     plan: Plan,
 ) -> Stand
-    requires { ⌜ CanMove stand (mergedStore (now ut) (now ui) (now up) (now uc) (now ue)) (mergedStore (now st) (now si) (now sp) (now sc) (now se)) (fractalStore (now fs) (now fp)) plan ⌝ }
-    ensures { λ r. ⌜ HasLeft stand (mergedStore (now (ut .entry)) (now (ui .entry)) (now (up .entry)) (now (uc .entry)) (now (ue .entry))) (mergedStore (now (st .entry)) (now (si .entry)) (now (sp .entry)) (now (sc .entry)) (now (se .entry))) (fractalStore (now (fs .entry)) (now (fp .entry))) r (mergedStore (now (ut .exit)) (now (ui .exit)) (now (up .exit)) (now (uc .exit)) (now (ue .exit))) (mergedStore (now (st .exit)) (now (si .exit)) (now (sp .exit)) (now (sc .exit)) (now (se .exit))) (fractalStore (now (fs .exit)) (now (fp .exit))) ⌝ }
+    requires { ⌜ CanMove stand (mergedHeld ut ui up uc ue) (mergedHeld st si sp sc se) (fractalsHeld fs fp) plan ⌝ }
+    ensures { λ r. ⌜ HasLeft stand (mergedBefore ut ui up uc ue) (mergedBefore st si sp sc se) (fractalsBefore fs fp) r (mergedAfter ut ui up uc ue) (mergedAfter st si sp sc se) (fractalsAfter fs fp) ⌝ }
 {
     let made = make_if(stand, ut, ui, up, uc, ue, st, si, sp, sc, se, fs, fp, plan);
     leave(made, ut, ui, up, uc, ue, st, si, sp, sc, se, plan)
 }
 
-// The strokes and the unfinished bars, once the bar is merged: a stroke that was found is put on, the last one may break, and the oldest one
+// update_bi of the source, as the plan has it: once the bar is merged, a stroke that was found is put on, the last one may break, and the oldest one
 // beyond the most goes.
-pub fn move_strokes(
+pub fn update_bi(
     stand: Stand,
     ut: &mut [i64],
     ui: &mut [i32],
@@ -110,8 +94,8 @@ pub fn move_strokes(
     fp: &mut [[f64; 18]],
     plan: Plan,
 ) -> Wrote
-    requires { ⌜ CanMove stand (mergedStore (now ut) (now ui) (now up) (now uc) (now ue)) (mergedStore (now st) (now si) (now sp) (now sc) (now se)) (fractalStore (now fs) (now fp)) plan ⌝ }
-    ensures { λ r. ⌜ HasMoved stand (mergedStore (now (ut .entry)) (now (ui .entry)) (now (up .entry)) (now (uc .entry)) (now (ue .entry))) (mergedStore (now (st .entry)) (now (si .entry)) (now (sp .entry)) (now (sc .entry)) (now (se .entry))) (fractalStore (now (fs .entry)) (now (fp .entry))) r (mergedStore (now (ut .exit)) (now (ui .exit)) (now (up .exit)) (now (uc .exit)) (now (ue .exit))) (mergedStore (now (st .exit)) (now (si .exit)) (now (sp .exit)) (now (sc .exit)) (now (se .exit))) (fractalStore (now (fs .exit)) (now (fp .exit))) ⌝ }
+    requires { ⌜ CanMove stand (mergedHeld ut ui up uc ue) (mergedHeld st si sp sc se) (fractalsHeld fs fp) plan ⌝ }
+    ensures { λ r. ⌜ HasMoved stand (mergedBefore ut ui up uc ue) (mergedBefore st si sp sc se) (fractalsBefore fs fp) r (mergedAfter ut ui up uc ue) (mergedAfter st si sp sc se) (fractalsAfter fs fp) ⌝ }
 {
     let found = plan.found;
     let made = count_of(found.made);
@@ -119,7 +103,7 @@ pub fn move_strokes(
     let left = make_and_leave(stand, ut, ui, up, uc, ue, st, si, sp, sc, se, fs, fp, plan);
     let over = left.most < left.strokes;
     let shed = count_of(over);
-    let kept = strokes::shed_if(left, st, si, sp, sc, se, fs, fp);
+    let kept = left.shed_if(st, si, sp, sc, se, fs, fp);
     Wrote {
         stand: kept,
         made,

@@ -3,13 +3,14 @@
 ghost use Prim.Native.Nat.{_≤_};
 ghost use lib.ListN.{drop};
 ghost use lib.Dec.{T};
-ghost use Rattle.stores.specs.Stores.{rawStore, mergedStore, SizedMerged};
+ghost use Rattle.stores.specs.Code.StoreRows.{SizedMerged};
 ghost use Rattle.machine.specs.Break.{joined};
-ghost use Rattle.strokes.specs.StoreSteps.{HasUnfinished, keptUnfinished, withoutLast, storedStroke};
-ghost use Rattle.strokes.specs.StrokeStore.{lastPlace, lastBars};
-ghost use Rattle.strokes.specs.Stored.{barCounts, total, elementsSized};
-ghost use Rattle.strokes.specs.ElementCounts.{StaySized};
-ghost use Rattle.writing.specs.WriteSteps.{CanPut, mergedFrom, CanBreak, CanLeave, leftStand, leftBars, restOf};
+ghost use Rattle.strokes.specs.Code.BarSteps.{HasUnfinished, keptUnfinished, withoutLast, storedStroke};
+ghost use Rattle.strokes.specs.Code.StrokeSteps.{lastPlace, lastBars};
+ghost use Rattle.strokes.specs.StateRead.{barCounts, total, elementsSized};
+ghost use Rattle.strokes.specs.Code.ElementCounts.{StaySized};
+ghost use Rattle.writing.specs.Code.WriteSteps.{CanPut, mergedFrom, CanBreak, CanLeave, leftStand, leftBars, restOf};
+ghost use Rattle.stores.specs.Lent.{rawHeld, rawBefore, mergedHeld, mergedBefore, mergedAfter};
 use asking::Plan;
 use bars::Bar;
 use strokes::Stand;
@@ -28,8 +29,8 @@ pub fn put_bar(
     later: bool,
     b: Bar,
 ) -> Stand
-    requires { ⌜ CanPut stand (rawStore (now rt) (now ri) (now rp)) (mergedStore (now ut) (now ui) (now up) (now uc) (now ue)) later b ⌝ }
-    ensures { λ r. ⌜ (HasUnfinished stand r (mergedStore (now (ut .exit)) (now (ui .exit)) (now (up .exit)) (now (uc .exit)) (now (ue .exit))) (mergedFrom later stand (rawStore (now (rt .entry)) (now (ri .entry)) (now (rp .entry))) (mergedStore (now (ut .entry)) (now (ui .entry)) (now (up .entry)) (now (uc .entry)) (now (ue .entry))) b)) × (StaySized (stand .unfinished) (mergedStore (now (ut .entry)) (now (ui .entry)) (now (up .entry)) (now (uc .entry)) (now (ue .entry))) (r .unfinished) (mergedStore (now (ut .exit)) (now (ui .exit)) (now (up .exit)) (now (uc .exit)) (now (ue .exit)))) ⌝ }
+    requires { ⌜ CanPut stand (rawHeld rt ri rp) (mergedHeld ut ui up uc ue) later b ⌝ }
+    ensures { λ r. ⌜ (HasUnfinished stand r (mergedAfter ut ui up uc ue) (mergedFrom later stand (rawBefore rt ri rp) (mergedBefore ut ui up uc ue) b)) × (StaySized (stand .unfinished) (mergedBefore ut ui up uc ue) (r .unfinished) (mergedAfter ut ui up uc ue)) ⌝ }
 {
     if later {
         return stand.put_merged(ut, ui, up, uc, ue, b);
@@ -47,8 +48,8 @@ fn begin_from(
     ue: &mut [[i64; 101]],
     k: usize,
 ) -> Stand
-    requires { ⌜ SizedMerged (mergedStore (now ut) (now ui) (now up) (now uc) (now ue)) (stand .rooms .unfinished) ⌝ ∗ ⌜ stand .unfinished ≤ stand .rooms .unfinished ⌝ ∗ ⌜ k ≤ stand .unfinished ⌝ }
-    ensures { λ r. ⌜ (HasUnfinished stand r (mergedStore (now (ut .exit)) (now (ui .exit)) (now (up .exit)) (now (uc .exit)) (now (ue .exit))) (drop k (keptUnfinished stand (mergedStore (now (ut .entry)) (now (ui .entry)) (now (up .entry)) (now (uc .entry)) (now (ue .entry)))))) × (StaySized (stand .unfinished) (mergedStore (now (ut .entry)) (now (ui .entry)) (now (up .entry)) (now (uc .entry)) (now (ue .entry))) (r .unfinished) (mergedStore (now (ut .exit)) (now (ui .exit)) (now (up .exit)) (now (uc .exit)) (now (ue .exit)))) ⌝ }
+    requires { ⌜ SizedMerged (mergedHeld ut ui up uc ue) (stand .rooms .unfinished) ⌝ ∗ ⌜ stand .unfinished ≤ stand .rooms .unfinished ⌝ ∗ ⌜ k ≤ stand .unfinished ⌝ }
+    ensures { λ r. ⌜ (HasUnfinished stand r (mergedAfter ut ui up uc ue) (drop k (keptUnfinished stand (mergedBefore ut ui up uc ue)))) × (StaySized (stand .unfinished) (mergedBefore ut ui up uc ue) (r .unfinished) (mergedAfter ut ui up uc ue)) ⌝ }
 {
     if k == 0 {
         return stand;
@@ -70,8 +71,9 @@ fn join_last(
     sc: &[usize],
     se: &[[i64; 101]],
 ) -> Stand
-    requires { ⌜ SizedMerged (mergedStore (now ut) (now ui) (now up) (now uc) (now ue)) (stand .rooms .unfinished) ⌝ ∗ ⌜ SizedMerged (mergedStore (now st) (now si) (now sp) (now sc) (now se)) (stand .rooms .strokes) ⌝ ∗ ⌜ stand .unfinished ≤ stand .rooms .unfinished ⌝ ∗ ⌜ CanBreak stand (mergedStore (now st) (now si) (now sp) (now sc) (now se)) (keptUnfinished stand (mergedStore (now ut) (now ui) (now up) (now uc) (now ue))) ⌝ }
-    ensures { λ r. ⌜ (HasUnfinished (withoutLast stand) r (mergedStore (now (ut .exit)) (now (ui .exit)) (now (up .exit)) (now (uc .exit)) (now (ue .exit))) (joined (storedStroke (mergedStore (now (st .entry)) (now (si .entry)) (now (sp .entry)) (now (sc .entry)) (now (se .entry))) (lastPlace stand) (lastBars stand)) (keptUnfinished stand (mergedStore (now (ut .entry)) (now (ui .entry)) (now (up .entry)) (now (uc .entry)) (now (ue .entry)))))) × (T (elementsSized (total (barCounts stand)) (mergedStore (now (st .entry)) (now (si .entry)) (now (sp .entry)) (now (sc .entry)) (now (se .entry)))) → StaySized (stand .unfinished) (mergedStore (now (ut .entry)) (now (ui .entry)) (now (up .entry)) (now (uc .entry)) (now (ue .entry))) (r .unfinished) (mergedStore (now (ut .exit)) (now (ui .exit)) (now (up .exit)) (now (uc .exit)) (now (ue .exit)))) ⌝ }
+    requires { ⌜ SizedMerged (mergedHeld ut ui up uc ue) (stand .rooms .unfinished) ⌝ ∗ ⌜ SizedMerged (mergedHeld st si sp sc se) (stand .rooms .strokes) ⌝ ∗ ⌜ stand .unfinished ≤ stand .rooms .unfinished ⌝ ∗ ⌜ CanBreak stand (mergedHeld st si sp sc se) (keptUnfinished stand (mergedHeld ut ui up uc ue)) ⌝ }
+    ensures { λ r. ⌜ HasUnfinished (withoutLast stand) r (mergedAfter ut ui up uc ue) (joined (storedStroke (mergedBefore st si sp sc se) (lastPlace stand) (lastBars stand)) (keptUnfinished stand (mergedBefore ut ui up uc ue))) ⌝ }
+    ensures { λ r. ⌜ (T (elementsSized (total (barCounts stand)) (mergedBefore st si sp sc se)) → StaySized (stand .unfinished) (mergedBefore ut ui up uc ue) (r .unfinished) (mergedAfter ut ui up uc ue)) ⌝ }
 {
     let counts = stand.bars;
     let n = stand.strokes - 1;
@@ -95,8 +97,9 @@ pub fn leave(
     se: &[[i64; 101]],
     plan: Plan,
 ) -> Stand
-    requires { ⌜ CanLeave stand (mergedStore (now ut) (now ui) (now up) (now uc) (now ue)) (mergedStore (now st) (now si) (now sp) (now sc) (now se)) plan ⌝ }
-    ensures { λ r. ⌜ (HasUnfinished (leftStand (plan .broken) stand) r (mergedStore (now (ut .exit)) (now (ui .exit)) (now (up .exit)) (now (uc .exit)) (now (ue .exit))) (leftBars (plan .broken) stand (mergedStore (now (st .entry)) (now (si .entry)) (now (sp .entry)) (now (sc .entry)) (now (se .entry))) (drop (restOf plan) (keptUnfinished stand (mergedStore (now (ut .entry)) (now (ui .entry)) (now (up .entry)) (now (uc .entry)) (now (ue .entry))))))) × (T (elementsSized (total (barCounts stand)) (mergedStore (now (st .entry)) (now (si .entry)) (now (sp .entry)) (now (sc .entry)) (now (se .entry)))) → StaySized (stand .unfinished) (mergedStore (now (ut .entry)) (now (ui .entry)) (now (up .entry)) (now (uc .entry)) (now (ue .entry))) (r .unfinished) (mergedStore (now (ut .exit)) (now (ui .exit)) (now (up .exit)) (now (uc .exit)) (now (ue .exit)))) ⌝ }
+    requires { ⌜ CanLeave stand (mergedHeld ut ui up uc ue) (mergedHeld st si sp sc se) plan ⌝ }
+    ensures { λ r. ⌜ HasUnfinished (leftStand (plan .broken) stand) r (mergedAfter ut ui up uc ue) (leftBars (plan .broken) stand (mergedBefore st si sp sc se) (drop (restOf plan) (keptUnfinished stand (mergedBefore ut ui up uc ue)))) ⌝ }
+    ensures { λ r. ⌜ (T (elementsSized (total (barCounts stand)) (mergedBefore st si sp sc se)) → StaySized (stand .unfinished) (mergedBefore ut ui up uc ue) (r .unfinished) (mergedAfter ut ui up uc ue)) ⌝ }
 {
     let cut = plan.cut;
     let broken = plan.broken;

@@ -8,20 +8,23 @@ use lib.ListN.{length, take, drop, getD, set, length-set}
 use lib.IntN.{ℤ}
 use lib.Ieee.{Float}
 use Rattle.machine.specs.Fractals.{Fractal}
-use Rattle.check_bi.specs.Scan.{candleOf}
 use Rattle.machine.specs.declared.Mark.{Mark}
-use Rattle.check_bi.specs.declared.scan.Candle.{Candle}
+use Rattle.check_bi.specs.declared.check_fx.Candle.{Candle}
 use Rattle.strokes.specs.declared.Stand.{Stand}
-use Rattle.strokes.specs.Stored.{FractalStore, noFractal, total}
-use Rattle.strokes.specs.StrokeStore.{SizedFractals, RoomFractals, rowMark, pasted}
+use Rattle.strokes.specs.StateRead.{noFractal, total}
+use Rattle.strokes.specs.Lent.{FractalStore}
+use Rattle.strokes.specs.Code.StrokeSteps.{SizedFractals, RoomFractals}
+use Rattle.strokes.specs.FractalRows.{rowMark}
 use Rattle.zones.specs.declared.FakeStroke.{FakeStroke}
 use Rattle.zones.specs.FakeStrokes.{Fake, evenPart, pairs, fakes, fakeOf, createFakeBis}
-use Rattle.zones.specs.FakeOfTwo.{fakeOfTwo, fakeCount}
-use Rattle.zones.specs.StrokesRead.{strokePlace, fractalNumber, markAt, middleAt, itemsFrom, StrokeStands}
-use Rattle.zones.specs.FakeRows.{fakeTimes, fakePrices, fakeCode, fakeAt, readFakes, FakeColumns, fakeColumns, putFakes, RoomFakes}
+use Rattle.zones.specs.Code.FakeOfTwo.{fakeOfTwo, fakeCount}
+use Rattle.zones.specs.Code.StrokesRead.{strokePlace, fractalNumber, itemsFrom, StrokeStands}
+use Rattle.named.specs.Code.NamedRows.{markAt, middleAt}
+use Rattle.zones.specs.FakeRows.{fakeTimes, fakePrices, fakeCode, FakeColumns, fakeColumns, putFakes}
+use Rattle.zones.specs.Code.FakeSteps.{fakeAt, readFakes, RoomFakes}
 use Rattle.zones.proofs.FakesOfTwo.{fake-of-two, even-length}
 use Rattle.zones.proofs.StrokesReadLaws.{fractalsAt, mark-at, middle-at, fractals-length}
-use Rattle.zones.proofs.Items.{items-same, items-map, items-length, put-none, put-length, row-turn, row-end}
+use Rattle.zones.proofs.Items.{items-same, items-map, put-none, row-turn}
 
 -- the fake of the fractals at places j and j + 1
 abbrev fakeAmong : List Fractal → ℕ → Fake

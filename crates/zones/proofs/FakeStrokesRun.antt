@@ -11,13 +11,12 @@ use lib.Dec.{T}
 use Rattle.machine.specs.declared.Mark.{Mark}
 use Rattle.machine.specs.declared.Mark.the-variants.{D, G}
 use Rattle.machine.specs.Fractals.{Fractal, timeOf, sameMark, taken}
-use Rattle.machine.specs.Strokes.{directionOf}
+use Rattle.machine.specs.Strokes.{directionOf, turned}
 use Rattle.machine.proofs.FewerFractals.{Alternate}
 use Rattle.machine.proofs.Facts.{AtMostOne, nothing, one}
 use Rattle.machine.proofs.Marks.{back, not-same}
 use Rattle.zones.specs.FakeStrokes.{Fake, evenPart, pairs, fakes, fakeDirection, fakeWith, fakeFrom, fakeOf, createFakeBis, Runs, FakesOf}
-use Rattle.zones.specs.Claims.{Told}
-use Rattle.reports.specs.Unfinished.{turned}
+use Rattle.zones.specs.Claims.{FakeChain}
 
 even-rest : {t : List Fractal} → AtMostOne t → evenPart t ≡ []
 unfolding evenPart
@@ -70,19 +69,19 @@ turns D G h = refl
 turns G D h = refl
 turns G G h = absurd h
 
-told-runs : (a z : Fractal) (l : List Fake) → Runs a l z → Told (timeOf a) (directionOf (a .mark)) (map fakeOf l) (timeOf z)
+told-runs : (a z : Fractal) (l : List Fake) → Runs a l z → FakeChain (timeOf a) (directionOf (a .mark)) (map fakeOf l) (timeOf z)
 told-runs a z [] r = ap timeOf r
 told-runs a z (f ∷ l) r =
     let p = fake-of f in (
       p .0 ∙ ap timeOf (r .0),
       p .1 ∙ ap (λ x. directionOf (x .mark)) (r .0),
-      subst (λ t. Told t (turned (directionOf (a .mark))) (map fakeOf l) (timeOf z)) (sym (p .2))
-          (subst (λ d. Told (timeOf (f .second)) d (map fakeOf l) (timeOf z))
+      subst (λ t. FakeChain t (turned (directionOf (a .mark))) (map fakeOf l) (timeOf z)) (sym (p .2))
+          (subst (λ d. FakeChain (timeOf (f .second)) d (map fakeOf l) (timeOf z))
           (sym (turns (f .first .mark) (f .second .mark) (r .1)) ∙ ap (λ x. turned (directionOf (x .mark))) (r .0))
           (told-runs (f .second) z l (r .2))),
     )
 
-pub fakes-told : (a z : Fractal) (l : List Fractal) → FakesOf a z (fakes l) → Told (timeOf a) (directionOf (a .mark)) (createFakeBis l) (timeOf z)
+pub fakes-told : (a z : Fractal) (l : List Fractal) → FakesOf a z (fakes l) → FakeChain (timeOf a) (directionOf (a .mark)) (createFakeBis l) (timeOf z)
 unfolding createFakeBis
 fakes-told a z l f = told-runs a z (fakes l) (f .runs)
 

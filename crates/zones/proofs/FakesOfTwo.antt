@@ -10,9 +10,9 @@ use Rattle.machine.specs.declared.Mark.{Mark}
 use Rattle.machine.specs.declared.Mark.the-variants.{D, G}
 use Rattle.machine.specs.Fractals.{Fractal, timeOf}
 use Rattle.machine.specs.Strokes.{directionOf}
-use Rattle.check_bi.specs.Scan.{candleOf}
+use Rattle.check_bi.specs.Code.Scan.{candleOf}
 use Rattle.zones.specs.FakeStrokes.{Fake, evenPart, pairs, fakes, fakeDirection, fakeWith, fakeFrom, fakeOf, createFakeBis}
-use Rattle.zones.specs.FakeOfTwo.{fakeOfTwo, fakeCount}
+use Rattle.zones.specs.Code.FakeOfTwo.{fakeOfTwo, fakeCount}
 
 by-mark : (m : Mark) (l k r : Merged) (b : Fractal) → fakeOfTwo m (candleOf k) (candleOf (b .mid)) ≡ fakeOf (record { first = record { mark = m; left = l; mid = k; right = r }; second = b })
 unfolding fakeOfTwo candleOf fakeOf fakeFrom fakeWith fakeDirection directionOf timeOf

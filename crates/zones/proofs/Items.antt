@@ -7,9 +7,9 @@ use mathlib.Core.Path.{_≡_, refl, ap, sym, _∙_, subst}
 use mathlib.Core.List.{List, [], _∷_, _++_, map, map-append}
 use lib.ListN.{length, take, drop, getD, set, length-append, length-map}
 use lib.Seq.{drop-cons, append-snoc, set-append-seam}
-use Rattle.strokes.specs.StrokeStore.{pasted}
+use Rattle.strokes.specs.FractalRows.{pasted}
 use Rattle.strokes.proofs.StoredFractals.{length-pasted}
-use Rattle.zones.specs.StrokesRead.{itemsFrom}
+use Rattle.zones.specs.Code.StrokesRead.{itemsFrom}
 
 module _ {A : Type 0} where
   pub items-length : (g : ℕ → A) (p n : ℕ) → length (itemsFrom g p n) ≡ n

@@ -7,13 +7,14 @@ use mathlib.Core.List.{List, [], _∷_, map}
 use lib.ListN.{length, length-map}
 use lib.Dec.{leb}
 use Rattle.strokes.specs.declared.Stand.{Stand}
-use Rattle.strokes.specs.Stored.{FractalStore, Stores}
-use Rattle.reports.specs.Reports.{question14}
+use Rattle.strokes.specs.Lent.{FractalStore, Stores}
+use Rattle.named.specs.ReportQuestions.{question14}
 use Rattle.zones.specs.declared.Summary.{Summary}
-use Rattle.zones.specs.Zones.{Zone, zones, zoneOf, getZsSeq}
-use Rattle.zones.specs.StrokesRead.{summaryAt, itemsFrom, readRun}
+use Rattle.zones.specs.Zones.{zones, zoneOf, getZsSeq}
+use Rattle.zones.specs.Code.StrokesRead.{summaryAt, readRun}
 use Rattle.zones.specs.NamedRuns.{runFailed, namedRun}
-use Rattle.zones.specs.ZoneRows.{ZoneColumns, putZones, RoomZones, StrokeColumns, putStrokes, RoomStrokes}
+use Rattle.zones.specs.ZoneRows.{ZoneColumns, putZones, StrokeColumns, putStrokes}
+use Rattle.zones.specs.Code.ZoneSteps.{RoomZones, RoomStrokes}
 use Rattle.zones.specs.ListedZones.{zonesFit, strokesFit, ZonesCall, zonesCall, zonesIf, zonesAfter, listedZones}
 use Rattle.zones.proofs.Items.{items-length}
 use Rattle.zones.proofs.NamedRunLaws.{named-is, three-fit}

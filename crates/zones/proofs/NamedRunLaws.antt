@@ -11,20 +11,22 @@ use lib.ListN.{length, take, drop, getD}
 use lib.Dec.{T, leb, ltb, leb→le}
 use Rattle.machine.specs.Strokes.{Stroke}
 use Rattle.strokes.specs.declared.Stand.{Stand}
-use Rattle.strokes.specs.Stored.{FractalStore, Stores, stateOf, strokeWith}
-use Rattle.sound.specs.Question4.{IsSound, question4}
-use Rattle.sound.proofs.SoundFacts.{Facts, facts, is-sound}
-use Rattle.sound.proofs.SoundScans.{holds}
-use Rattle.reports.specs.Reports.{exists, runExists, strokeExists, fractalsOf, question14}
-use Rattle.zones.specs.declared.Summary.{Summary}
+use Rattle.strokes.specs.StateRead.{stateOf, strokeWith}
+use Rattle.strokes.specs.Lent.{FractalStore, Stores}
+use Rattle.sound.specs.StandSound.{IsSound}
+use Rattle.question4.specs.Question4.{question4}
+use Rattle.sound.proofs.SoundFacts.{facts}
+use Rattle.question4.proofs.Question4Passed.{is-sound}
+use Rattle.arith.proofs.Tests.{holds}
+use Rattle.named.specs.ReportQuestions.{exists, runExists, strokeExists, fractalsOf, question14}
 use Rattle.zones.specs.declared.FakeStroke.{FakeStroke}
-use Rattle.zones.specs.declared.named_runs.RunAnswer.{RunAnswer}
 use Rattle.zones.specs.BisUpDown.{isBisUp, isBisDown}
 use Rattle.zones.specs.FakeStrokes.{createFakeBis}
-use Rattle.zones.specs.FakeOfTwo.{fakeCount}
-use Rattle.zones.specs.StrokesRead.{strokePlace, fractalNumber, itemsFrom, readRun, StrokeStands, RunStands}
+use Rattle.zones.specs.Code.FakeOfTwo.{fakeCount}
+use Rattle.zones.specs.Code.StrokesRead.{strokePlace, fractalNumber, readRun, StrokeStands, RunStands}
 use Rattle.zones.specs.NamedRuns.{failedIf, runFailed, namedRun, answerIf, bisUpAnswer, bisDownAnswer}
-use Rattle.zones.specs.FakeRows.{FakeColumns, fakeColumns, putFakes, readFakes, fakeAt, RoomFakes}
+use Rattle.zones.specs.FakeRows.{FakeColumns, putFakes}
+use Rattle.zones.specs.Code.FakeSteps.{readFakes, fakeAt, RoomFakes}
 use Rattle.zones.specs.ListedFakes.{fakesOf, strokeFailed, fakesFit, FakesCall, fakesCall, fakesIf, fakesAfter, listedFakes}
 use Rattle.zones.proofs.StrokesReadLaws.{stroke-is, stroke-stands, run-stands, run-read}
 use Rattle.zones.proofs.Items.{items-length}

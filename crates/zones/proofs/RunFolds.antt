@@ -11,13 +11,13 @@ use lib.Signed.{ltZ}
 use lib.Ieee.{Float}
 use Rattle.arith.specs.Order.{maxOf, minOf}
 use Rattle.bars.specs.Lists as Lists
-use Rattle.reports.specs.Folds.{greatest, least}
+use Rattle.named.specs.Folds.{greatest, least}
 use Rattle.zones.specs.declared.Summary.{Summary}
 use Rattle.zones.specs.declared.runs_of_strokes.GrowingRun.{GrowingRun}
 use Rattle.zones.specs.Zones.{highs, lows, gg, dd, lastFrom}
 use Rattle.zones.specs.BisUpDown.{chronological, isRun, upFrom, downFrom, isBisUp, isBisDown}
-use Rattle.zones.specs.GrowingRun.{begun, inOrderWith, threeWith, moreOf, runOf, isRunOf, upOf, downOf}
-use Rattle.sound.proofs.SoundScans.{and-true, and-assoc}
+use Rattle.zones.specs.Code.GrowingRun.{begun, inOrderWith, threeWith, moreOf, runOf, isRunOf, upOf, downOf}
+use Rattle.arith.proofs.Tests.{and-true, and-assoc}
 
 -- ---- how many strokes
 
@@ -64,17 +64,17 @@ more-is a k x t u v s =
     ∙ ap (λ (o : Bool). record { first = a; last = s; odd = eqb (suc (suc k) % 2) 1; three = o; in_order = t && ltZ (x .ended) (s .ended); gg = maxOf u (s .high); dd = minOf v (s .low) }) (three-step k)
 
 run-fold : (a : Summary) (k : ℕ) (x : Summary) (t : Bool) (u v : Float) (l : List Summary)
-    → foldl moreOf (after a (suc k) x t u v) l ≡ after a (counted (suc k) l) (lastFrom x l) (t && chronological (x ∷ l)) (Lists.foldl maxOf u (highs l)) (Lists.foldl minOf v (lows l))
-unfolding lastFrom chronological highs lows Lists.foldl
+    → foldl moreOf (after a (suc k) x t u v) l ≡ after a (counted (suc k) l) (lastFrom x l) (t && chronological (x ∷ l)) (Lists.foldLeft maxOf u (highs l)) (Lists.foldLeft minOf v (lows l))
+unfolding lastFrom chronological highs lows Lists.foldLeft
 run-fold a k x t u v [] = ap (λ (b : Bool). after a (suc k) x b u v) (sym (and-true t))
 run-fold a k x t u v (s ∷ l) =
     ap (λ (r : GrowingRun). foldl moreOf r l) (more-is a k x t u v s)
     ∙ run-fold a (suc k) s (t && ltZ (x .ended) (s .ended)) (maxOf u (s .high)) (minOf v (s .low)) l
-    ∙ ap (λ (b : Bool). after a (counted (suc (suc k)) l) (lastFrom s l) b (Lists.foldl maxOf (maxOf u (s .high)) (highs l)) (Lists.foldl minOf (minOf v (s .low)) (lows l))) (sym (and-assoc t (ltZ (x .ended) (s .ended)) (chronological (s ∷ l))))
+    ∙ ap (λ (b : Bool). after a (counted (suc (suc k)) l) (lastFrom s l) b (Lists.foldLeft maxOf (maxOf u (s .high)) (highs l)) (Lists.foldLeft minOf (minOf v (s .low)) (lows l))) (sym (and-assoc t (ltZ (x .ended) (s .ended)) (chronological (s ∷ l))))
 
 -- a run of one stroke is the run after one
 run-is : (a : Summary) (l : List Summary) → runOf a l ≡ after a (length (a ∷ l)) (lastFrom a l) (chronological (a ∷ l)) (gg (a ∷ l)) (dd (a ∷ l))
-unfolding runOf begun gg dd greatest least highs lows Lists.foldl
+unfolding runOf begun gg dd greatest least highs lows Lists.foldLeft
 run-is a l =
     run-fold a 0 a true (gg (a ∷ [])) (dd (a ∷ [])) l
     ∙ ap (λ (n : ℕ). after a n (lastFrom a l) (chronological (a ∷ l)) (gg (a ∷ l)) (dd (a ∷ l))) (counted-is 1 l ∙ one (length l))

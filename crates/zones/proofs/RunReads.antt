@@ -9,17 +9,18 @@ use lib.ListN.{take, getD}
 use lib.Dec.{leb, leb→le, nleb→lt, le→leb, not-T}
 use Rattle.strokes.specs.declared.Stand.{Stand}
 use Rattle.machine.specs.declared.Mark.{Mark}
-use Rattle.check_bi.specs.declared.scan.Candle.{Candle}
-use Rattle.strokes.specs.Stored.{FractalStore, total}
-use Rattle.strokes.specs.StrokeStore.{rowMark}
+use Rattle.check_bi.specs.declared.check_fx.Candle.{Candle}
+use Rattle.strokes.specs.StateRead.{total}
+use Rattle.strokes.specs.Lent.{FractalStore}
+use Rattle.strokes.specs.FractalRows.{rowMark}
 use Rattle.zones.specs.declared.Summary.{Summary}
 use Rattle.zones.specs.declared.runs_of_strokes.GrowingRun.{GrowingRun}
 use Rattle.zones.specs.BisUpDown.{isBisUp, isBisDown}
-use Rattle.zones.specs.GrowingRun.{begun, moreOf, runOf, upOf, downOf}
-use Rattle.zones.specs.StrokesRead.{strokePlace, fractalNumber, endRow, markAt, middleAt, summaryFrom, summaryAt, itemsFrom, readRun, StrokeStands, RunStands}
+use Rattle.zones.specs.Code.GrowingRun.{begun, moreOf, runOf, upOf, downOf}
+use Rattle.zones.specs.Code.StrokesRead.{strokePlace, fractalNumber, strokeEnd, summaryFrom, summaryAt, itemsFrom, readRun, StrokeStands, RunStands}
+use Rattle.named.specs.Code.NamedRows.{markAt, middleAt}
 use Rattle.zones.proofs.RunFolds.{up-grown, down-grown}
 use Rattle.zones.proofs.StrokesReadLaws.{run-first}
-use Rattle.sound.proofs.SoundScans.{same}
 use borrow.Author.Tests.{lt-leb, le-leb}
 
 -- a stroke that the code has read
@@ -31,7 +32,7 @@ pub summary-done : (s : Stand) (f : FractalStore) (i place e : ℕ) (m : Mark) (
     → z ≡ middleAt f (place + e)
     → r ≡ summaryFrom m a z
     → r ≡ summaryAt s f i
-unfolding summaryAt strokePlace fractalNumber endRow markAt
+unfolding summaryAt strokePlace fractalNumber strokeEnd markAt
 summary-done s f i place e m a z r ep ee em ea ez er =
     er ∙ (λ j. summaryFrom (em j) (ea j) (ez j)) ∙ (λ j. summaryFrom (rowMark (getD (f .prices) (ep j) [])) (middleAt f (ep j)) (middleAt f (ep j + ee j)))
 
@@ -61,17 +62,6 @@ module _ (s : Stand) (f : FractalStore) (first count : ℕ) where
 
   pub down-walked : (w : GrowingRun) (r : Bool) → 1 ≤ count → w ≡ runOf (summaryAt s f first) (readRun s f (first + 1) (count - 1)) → r ≡ downOf w → r ≡ isBisDown (readRun s f first count)
   down-walked w r h e q = q ∙ ap downOf e ∙ down-grown (summaryAt s f first) (readRun s f (first + 1) (count - 1)) ∙ sym (ap isBisDown (run-first s f first count h))
-
--- ---- whether a run exists
-
-pub too-long : (first count n : ℕ) → n < count → false ≡ leb (first + count) n
-too-long first count n h = sym (lt-leb (first + count) n (omega arith))
-
-pub fits-behind : (first count n : ℕ) → count ≤ n → leb first (n - count) ≡ leb (first + count) n
-fits-behind first count n h =
-    same (leb first (n - count)) (leb (first + count) n)
-    (λ t. let k = leb→le first (n - count) t in le→leb (first + count) n (omega arith))
-    (λ t. let k = leb→le (first + count) n t in le→leb first (n - count) (omega arith))
 
 -- ---- whether three columns have n places
 

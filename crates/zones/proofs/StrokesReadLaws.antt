@@ -14,31 +14,28 @@ use lib.IntN.{ℤ, pos}
 use lib.Ieee.{Float, nan}
 use lib.Ieee.Fits.{and-l, and-r}
 use lib.Dec.{T, leb, leb→le}
-use Rattle.arith.specs.Order.{maxOf, minOf}
 use Rattle.bars.specs.Bars.{Merged}
 use Rattle.bars.specs.Lists.{some-of}
 use Rattle.stores.specs.Stores.{MergedStore, barOf, mergedBars}
 use Rattle.stores.proofs.Columns.{zip-at}
-use Rattle.machine.specs.declared.Mark.{Mark}
 use Rattle.machine.specs.Fractals.{Fractal, timeOf}
-use Rattle.machine.specs.Strokes.{Stroke, directionOf}
+use Rattle.machine.specs.Strokes.{Stroke}
 use Rattle.machine.specs.Break.{highOf, lowOf}
 use Rattle.machine.specs.Soundness.{alternates, sameFractal, isStroke, strokesPass}
-use Rattle.check_bi.specs.declared.scan.Candle.{Candle}
-use Rattle.check_bi.specs.Scan.{candleOf}
+use Rattle.check_bi.specs.Code.Scan.{candleOf}
 use Rattle.strokes.specs.declared.Stand.{Stand}
-use Rattle.strokes.specs.Stored.{FractalStore, rowBar, fractalOf, rowFractal, noFractal, storedFractals, strokeWith, barCounts, fractalCounts, total, Stores, stateOf}
-use Rattle.strokes.specs.StrokeStore.{SizedFractals, Kept}
+use Rattle.strokes.specs.StateRead.{rowBar, fractalOf, rowFractal, noFractal, storedFractals, strokeWith, barCounts, fractalCounts, total, stateOf}
+use Rattle.strokes.specs.Lent.{FractalStore, Stores}
+use Rattle.strokes.specs.Code.StrokeSteps.{SizedFractals}
 use Rattle.strokes.proofs.StoredStrokes.{stored-length, length-take-most, row-mark, not-empty}
-use Rattle.sound.specs.Question4.{IsSound}
+use Rattle.sound.specs.StandSound.{IsSound}
 use Rattle.sound.proofs.SoundFacts.{Facts, facts}
-use Rattle.reports.specs.Reports.{nth, runOf}
-use Rattle.reports.specs.NamedStrokes.{rowsOf, strokeIn}
-use Rattle.reports.proofs.StrokeAt.{stroke-at, every-nth, total-part, fewer-at}
-use Rattle.reports.proofs.NamedAnswers.{nth-at}
+use Rattle.named.specs.ReportQuestions.{nth, runOf}
+use Rattle.named.specs.Code.NamedRows.{rowsOf, strokeIn, markAt, middleAt}
+use Rattle.named.proofs.StrokeAt.{stroke-at, every-nth, total-part, fewer-at, nth-at}
 use Rattle.zones.specs.declared.Summary.{Summary}
 use Rattle.zones.specs.Zones.{summary}
-use Rattle.zones.specs.StrokesRead.{strokePlace, fractalNumber, endRow, markAt, middleAt, summaryFrom, summaryAt, itemsFrom, readRun, StrokeStands, RunStands}
+use Rattle.zones.specs.Code.StrokesRead.{strokePlace, fractalNumber, strokeEnd, summaryFrom, summaryAt, itemsFrom, readRun, StrokeStands, RunStands}
 
 -- ---- the stroke at a place
 
@@ -85,7 +82,7 @@ module _ (s : Stand) (f : FractalStore) (n i : ℕ) (sized : SizedFractals f n) 
   of-ends a z fx ks = refl
 
   pub summary-is : (ks : List Merged) → summary (strokeWith (fractalsAt s f i) ks) ≡ summaryAt s f i
-  unfolding strokeWith summaryAt endRow
+  unfolding strokeWith summaryAt strokeEnd
   summary-is ks =
       let fx = fractalsAt s f i in
       let m = fractalNumber s i in

@@ -9,12 +9,12 @@ use Rattle.bars.specs.Lists as Lists
 use Rattle.bars.specs.Lists.{every}
 use Rattle.machine.specs.declared.Direction.{Direction}
 use Rattle.machine.specs.declared.Direction.the-variants.{Up, Down}
-use Rattle.reports.specs.Folds.{greatest, least}
+use Rattle.named.specs.Folds.{greatest, least}
 use Rattle.zones.specs.declared.Summary.{Summary}
 use Rattle.zones.specs.declared.zone_building.GrowingZone.{GrowingZone}
 use Rattle.zones.specs.Zones.{Zone, highs, lows, zg, zd, zz, gg, dd, outside, opens, meetsRange, isValid, zoneWith, lastFrom, zoneOf}
-use Rattle.zones.specs.GrowingZone.{started, joinedEarly, joinedLater, joinedIf, joinedOf, grown, outsideOf, opensOf, zzOf, firstMeet, validOf, zoneFrom}
-use Rattle.sound.proofs.SoundScans.{and-true, and-assoc}
+use Rattle.zones.specs.Code.GrowingZone.{started, joinedEarly, joinedLater, joinedIf, joinedOf, grown, outsideOf, opensOf, zzOf, firstMeet, validOf, zoneFrom}
+use Rattle.arith.proofs.Tests.{and-true, and-assoc}
 
 -- of three strokes a, b, c or more
 abbrev threeOn : Summary → Summary → Summary → Float → Float → Summary → Float → Float → Bool → GrowingZone
@@ -22,12 +22,12 @@ threeOn a b c g d x u v t = record { few = 3; first = a; second = b; third = c; 
 
 module _ (a b c : Summary) (g d : Float) where
   later-fold : (x : Summary) (u v : Float) (t : Bool) (l : List Summary)
-      → foldl joinedOf (threeOn a b c g d x u v t) l ≡ threeOn a b c g d (lastFrom x l) (Lists.foldl maxOf u (highs l)) (Lists.foldl minOf v (lows l)) (t && every (meetsRange g d) l)
-  unfolding joinedOf joinedIf joinedLater lastFrom highs lows Lists.foldl every
+      → foldl joinedOf (threeOn a b c g d x u v t) l ≡ threeOn a b c g d (lastFrom x l) (Lists.foldLeft maxOf u (highs l)) (Lists.foldLeft minOf v (lows l)) (t && every (meetsRange g d) l)
+  unfolding joinedOf joinedIf joinedLater lastFrom highs lows Lists.foldLeft every
   later-fold x u v t [] = ap (threeOn a b c g d x u v) (sym (and-true t))
   later-fold x u v t (s ∷ l) =
       later-fold s (maxOf u (s .high)) (minOf v (s .low)) (t && meetsRange g d s) l
-      ∙ ap (threeOn a b c g d (lastFrom s l) (Lists.foldl maxOf (maxOf u (s .high)) (highs l)) (Lists.foldl minOf (minOf v (s .low)) (lows l))) (sym (and-assoc t (meetsRange g d s) (every (meetsRange g d) l)))
+      ∙ ap (threeOn a b c g d (lastFrom s l) (Lists.foldLeft maxOf (maxOf u (s .high)) (highs l)) (Lists.foldLeft minOf (minOf v (s .low)) (lows l))) (sym (and-assoc t (meetsRange g d s) (every (meetsRange g d) l)))
 
 -- ---- is_valid: a missing stroke stands for the one before it
 
@@ -61,7 +61,7 @@ apart z = not (lt (zg z) (zd z))
 
 -- started with a and joined by each stroke of l in turn, it is ZS::new of them all
 pub zone-grown : (a : Summary) (l : List Summary) → zoneFrom (grown a l) (a ∷ l) ≡ zoneOf (a ∷ l)
-unfolding grown started joinedOf joinedIf joinedEarly zoneFrom zzOf validOf firstMeet zoneOf zoneWith lastFrom isValid zg zd zz gg dd least greatest highs lows Lists.foldl every
+unfolding grown started joinedOf joinedIf joinedEarly zoneFrom zzOf validOf firstMeet zoneOf zoneWith lastFrom isValid zg zd zz gg dd least greatest highs lows Lists.foldLeft every
 zone-grown a [] = ap (answered (a ∷ []) a a) (one-meets (apart (a ∷ [])) (meets (a ∷ []) a))
 zone-grown a (b ∷ []) = ap (answered (a ∷ b ∷ []) a b) (two-meet (apart (a ∷ b ∷ [])) (meets (a ∷ b ∷ []) a) (meets (a ∷ b ∷ []) b))
 zone-grown a (b ∷ c ∷ l) =

@@ -11,16 +11,17 @@ use lib.Seq.{drop-cons, drop-drop, take-suc, take-all, length-take-le}
 use lib.IntN.{ℤ}
 use lib.Ieee.{Float}
 use Rattle.strokes.specs.declared.Stand.{Stand}
-use Rattle.strokes.specs.Stored.{FractalStore}
-use Rattle.strokes.specs.StrokeStore.{pasted}
+use Rattle.strokes.specs.Lent.{FractalStore}
+use Rattle.strokes.specs.FractalRows.{pasted}
 use Rattle.zones.specs.declared.Summary.{Summary}
 use Rattle.zones.specs.declared.zone_building.GrowingZone.{GrowingZone}
 use Rattle.zones.specs.declared.zone_writing.Building.{Building}
 use Rattle.zones.specs.Zones.{Zone, opens, placed, grow, zones, zoneOf, getZsSeq}
-use Rattle.zones.specs.GrowingZone.{started, joinedOf, grown, opensOf, zzOf, validOf, zoneFrom}
-use Rattle.zones.specs.StrokesRead.{summaryAt, readRun, itemsFrom, StrokeStands, RunStands}
+use Rattle.zones.specs.Code.GrowingZone.{joinedOf, grown, opensOf, zzOf, validOf, zoneFrom}
+use Rattle.zones.specs.Code.StrokesRead.{summaryAt, readRun, itemsFrom}
 use Rattle.zones.specs.FakeRows.{directionCode}
-use Rattle.zones.specs.ZoneRows.{flag, zoneTimes, zonePrices, zoneNumbers, ZoneColumns, zoneColumns, putZones, RoomZones, strokeTimes, strokePrices, strokeCode, StrokeColumns, strokeColumns, putStrokes, RoomStrokes, buildingOf, nextIf, nextOf, setZone, setIf}
+use Rattle.zones.specs.ZoneRows.{flag, zoneTimes, zonePrices, zoneNumbers, ZoneColumns, zoneColumns, putZones, strokeTimes, strokePrices, strokeCode, StrokeColumns, strokeColumns, putStrokes}
+use Rattle.zones.specs.Code.ZoneSteps.{RoomZones, RoomStrokes, buildingOf, nextIf, nextOf, setZone, setIf}
 use Rattle.zones.proofs.ZoneFolds.{zone-grown, opens-grown, joined-grown}
 use Rattle.zones.proofs.StrokesReadLaws.{run-first, run-step, run-none}
 use Rattle.zones.proofs.RunReads.{read-none}

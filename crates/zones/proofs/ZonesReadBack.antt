@@ -13,7 +13,7 @@ use Rattle.bars.specs.Lists.{join}
 use Rattle.stores.specs.Stores.{zipWith}
 use Rattle.machine.specs.declared.Direction.{Direction}
 use Rattle.machine.specs.declared.Direction.the-variants.{Up, Down}
-use Rattle.strokes.specs.StrokeStore.{pasted}
+use Rattle.strokes.specs.FractalRows.{pasted}
 use Rattle.zones.specs.declared.Summary.{Summary}
 use Rattle.zones.specs.Zones.{Zone, getZsSeq}
 use Rattle.zones.specs.FakeRows.{directionCode}

@@ -8,17 +8,15 @@ use lib.IntN.{ℤ}
 use Rattle.bars.specs.declared.Bar.{Bar}
 use Rattle.bars.specs.Lists.{All, join}
 use Rattle.machine.specs.declared.Direction.{Direction}
-use Rattle.machine.specs.Fractals.{Fractal, timeOf}
-use Rattle.machine.specs.Strokes.{Stroke, directionOf}
+use Rattle.machine.specs.Fractals.{timeOf}
+use Rattle.machine.specs.Strokes.{Stroke, directionOf, turned}
 use Rattle.machine.specs.Stand.{Settings}
 use Rattle.machine.specs.Calls.{calls}
 use Rattle.machine.specs.KeptStrokes.{LessExtreme, MeetAll}
 use Rattle.machine.specs.Reached.{Later}
-use Rattle.zones.specs.declared.Summary.{Summary}
 use Rattle.zones.specs.declared.FakeStroke.{FakeStroke}
 use Rattle.zones.specs.FakeStrokes.{FakesOf, fakes, createFakeBis}
-use Rattle.zones.specs.Zones.{Zone, summary, getZsSeq}
-use Rattle.reports.specs.Unfinished.{turned}
+use Rattle.zones.specs.Zones.{summary, getZsSeq}
 
 -- the strokes that were made and neither broken nor shed
 unfoldable pub kept : Settings → List Bar → List Stroke
@@ -26,9 +24,9 @@ unfolding calls
 kept c bs = (calls c bs) .state .strokes
 
 -- answered fake strokes, the first from time t in the direction d: each begins at the time at which the one before ends and goes the other way, and the last ends at u
-abbrev pub Told : ℤ → Direction → List FakeStroke → ℤ → Type 0
-Told t d [] u = t ≡ u
-Told t d (f ∷ l) u = (f .sdt ≡ t) × (f .direction ≡ d) × Told (f .edt) (turned d) l u
+abbrev pub FakeChain : ℤ → Direction → List FakeStroke → ℤ → Type 0
+FakeChain t d [] u = t ≡ u
+FakeChain t d (f ∷ l) u = (f .sdt ≡ t) × (f .direction ≡ d) × FakeChain (f .edt) (turned d) l u
 
 -- of one kept stroke
 pub record Inside (b : Stroke) : Type 0 where
@@ -36,7 +34,7 @@ pub record Inside (b : Stroke) : Type 0 where
   pub fake : FakesOf (b .start) (b .end) (fakes (b .fractals))
   -- the same of the fake strokes as they are answered: an odd number, from the start's time in the stroke's direction to the end's time
   pub count : length (createFakeBis (b .fractals)) % 2 ≡ 1
-  pub told : Told (timeOf (b .start)) (directionOf (b .start .mark)) (createFakeBis (b .fractals)) (timeOf (b .end))
+  pub told : FakeChain (timeOf (b .start)) (directionOf (b .start .mark)) (createFakeBis (b .fractals)) (timeOf (b .end))
   -- every other fractal of the end's mark inside it is less extreme, or equally extreme and later
   pub extreme : All (LessExtreme (b .end)) (b .fractals)
 

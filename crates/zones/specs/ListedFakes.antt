@@ -5,9 +5,10 @@ use mathlib.Core.Bool.{Bool, true, false, _&&_}
 use mathlib.Core.List.{List}
 use lib.ListN.{length}
 use Rattle.strokes.specs.declared.Stand.{Stand}
-use Rattle.strokes.specs.Stored.{Stores, stateOf}
-use Rattle.sound.specs.Question4.{question4}
-use Rattle.reports.specs.Reports.{nth, strokeExists, fractalsOf, question14}
+use Rattle.strokes.specs.StateRead.{stateOf}
+use Rattle.strokes.specs.Lent.{Stores}
+use Rattle.question4.specs.Question4.{question4}
+use Rattle.named.specs.ReportQuestions.{nth, strokeExists, fractalsOf, question14}
 use Rattle.zones.specs.declared.FakeStroke.{FakeStroke}
 use Rattle.zones.specs.declared.fake_writing.FakesAnswer.{FakesAnswer}
 use Rattle.zones.specs.FakeStrokes.{createFakeBis}

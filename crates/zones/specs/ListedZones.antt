@@ -5,8 +5,8 @@ use mathlib.Core.Bool.{Bool, true, false, _&&_}
 use mathlib.Core.List.{List}
 use lib.ListN.{length}
 use Rattle.strokes.specs.declared.Stand.{Stand}
-use Rattle.strokes.specs.Stored.{Stores}
-use Rattle.reports.specs.Reports.{question14}
+use Rattle.strokes.specs.Lent.{Stores}
+use Rattle.named.specs.ReportQuestions.{question14}
 use Rattle.zones.specs.declared.Summary.{Summary}
 use Rattle.zones.specs.declared.zone_writing.ZonesAnswer.{ZonesAnswer}
 use Rattle.zones.specs.Zones.{Zone, getZsSeq}

@@ -3,9 +3,10 @@ use Prim.Native.Nat.{ℕ, zero, suc}
 use mathlib.Core.Bool.{Bool, true, false}
 use mathlib.Core.List.{List, map}
 use Rattle.strokes.specs.declared.Stand.{Stand}
-use Rattle.strokes.specs.Stored.{Stores, stateOf}
-use Rattle.sound.specs.Question4.{question4}
-use Rattle.reports.specs.Reports.{runExists, runOf}
+use Rattle.strokes.specs.StateRead.{stateOf}
+use Rattle.strokes.specs.Lent.{Stores}
+use Rattle.question4.specs.Question4.{question4}
+use Rattle.named.specs.ReportQuestions.{runExists, runOf}
 use Rattle.zones.specs.declared.Summary.{Summary}
 use Rattle.zones.specs.declared.named_runs.RunAnswer.{RunAnswer}
 use Rattle.zones.specs.Zones.{summary}

@@ -10,7 +10,7 @@ use Rattle.machine.specs.declared.Direction.{Direction}
 use Rattle.machine.specs.declared.Direction.the-variants.{Up, Down}
 use Rattle.machine.specs.Fractals.{timeOf}
 use Rattle.machine.specs.Strokes.{Stroke, directionOf}
-use Rattle.reports.specs.Folds.{greatest, least}
+use Rattle.named.specs.Folds.{greatest, least}
 use Rattle.machine.specs.Break.{highOf, lowOf}
 use Rattle.zones.specs.declared.Summary.{Summary}
 

@@ -1,7 +1,7 @@
 // create_fake_bis of the source, one fake stroke at a time, since a stroke's fractals lie spread over a
 // store.
 ghost use mathlib.Core.Path.{_≡_};
-ghost use Rattle.zones.specs.FakeOfTwo.{fakeOfTwo, fakeCount};
+ghost use Rattle.zones.specs.Code.FakeOfTwo.{fakeOfTwo, fakeCount};
 use crate::FakeStroke;
 use check_bi::Candle;
 use machine::Direction;

@@ -1,25 +1,24 @@
 // create_fake_bis of a kept stroke, written to lent columns.
 ghost use mathlib.Core.Path.{_≡_};
-ghost use mathlib.Core.List.{map};
-ghost use Prim.Native.Nat.{_+_, _<_, _≤_};
+ghost use Prim.Native.Nat.{_+_, _<_};
 ghost use mathlib.Core.Bool.{_&&_};
 ghost use lib.Dec.{leb};
-ghost use lib.ListN.{length, set};
-ghost use Rattle.stores.specs.Stores.{rawStore, mergedStore};
-ghost use Rattle.sound.specs.SoundStand.{storesOf};
+ghost use lib.ListN.{set};
+ghost use Rattle.strokes.specs.Lent.{fractalsHeld, fractalsBefore, before};
 ghost use Rattle.zones.specs.ListedFakes.{fakesFit, fakesIf, fakesCall, listedFakes};
-ghost use Rattle.strokes.specs.Stored.{fractalStore};
-ghost use Rattle.strokes.specs.StrokeStore.{RoomFractals};
-ghost use Rattle.zones.specs.FakeOfTwo.{fakeCount};
-ghost use Rattle.zones.specs.StrokesRead.{itemsFrom, fractalNumber, StrokeStands};
-ghost use Rattle.zones.specs.FakeRows.{directionCode, fakeTimes, fakePrices, fakeCode, fakeAt, readFakes, fakeColumns, putFakes, RoomFakes};
+ghost use Rattle.strokes.specs.Code.StrokeSteps.{RoomFractals};
+ghost use Rattle.zones.specs.Code.FakeOfTwo.{fakeCount};
+ghost use Rattle.zones.specs.Code.StrokesRead.{itemsFrom, fractalNumber, StrokeStands};
+ghost use Rattle.zones.specs.FakeRows.{directionCode, fakeTimes, fakePrices, fakeCode, fakeColumns, putFakes};
+ghost use Rattle.zones.specs.Code.FakeSteps.{fakeAt, readFakes, RoomFakes};
+ghost use Rattle.zones.specs.Lent.{fakesAfter, fakesBefore, fakesHeld};
 use super::fake_strokes::fake_count;
 use super::fake_strokes::fake_stroke;
 use super::named_runs::run_failed;
-use super::reading::mark_at;
-use super::reading::middle_at;
 use crate::FakeStroke;
 use machine::Direction;
+use named::mark_at;
+use named::middle_at;
 use strokes::Stand;
 
 // The number of the question that was answered no, or 0, and how many fake strokes are listed.
@@ -40,8 +39,8 @@ pub fn direction_code(d: Direction) -> u8
 
 // The fake stroke from the fractal in row p to the next.
 fn fake_at(fs: &[[i64; 6]], fp: &[[f64; 18]], p: usize) -> FakeStroke
-    requires { ⌜ RoomFractals (fractalStore (now fs) (now fp)) (p + 2) ⌝ }
-    ensures { λ r. ⌜ r ≡ fakeAt (fractalStore (now (fs .entry)) (now (fp .entry))) p ⌝ }
+    requires { ⌜ RoomFractals (fractalsHeld fs fp) (p + 2) ⌝ }
+    ensures { λ r. ⌜ r ≡ fakeAt (fractalsBefore fs fp) p ⌝ }
 {
     let q = p + 1;
     let mark = mark_at(fp, p);
@@ -52,8 +51,8 @@ fn fake_at(fs: &[[i64; 6]], fp: &[[f64; 18]], p: usize) -> FakeStroke
 
 // The rows of a fake stroke.
 fn write_fake(k: FakeStroke, ot: &mut [[i64; 2]], op: &mut [[f64; 3]], od: &mut [u8], at: usize)
-    requires { ⌜ RoomFakes (fakeColumns (now ot) (now op) (now od)) (at + 1) ⌝ }
-    ensures { λ _. ⌜ fakeColumns (now (ot .exit)) (now (op .exit)) (now (od .exit)) ≡ fakeColumns (set (now (ot .entry)) at (fakeTimes k)) (set (now (op .entry)) at (fakePrices k)) (set (now (od .entry)) at (fakeCode k)) ⌝ }
+    requires { ⌜ RoomFakes (fakesHeld ot op od) (at + 1) ⌝ }
+    ensures { λ _. ⌜ fakesAfter ot op od ≡ fakeColumns (set (now (ot .entry)) at (fakeTimes k)) (set (now (op .entry)) at (fakePrices k)) (set (now (od .entry)) at (fakeCode k)) ⌝ }
 {
     let d = k.direction;
     let code = direction_code(d);
@@ -74,8 +73,8 @@ fn write_fakes(
     op: &mut [[f64; 3]],
     od: &mut [u8],
 )
-    requires { ⌜ RoomFractals (fractalStore (now fs) (now fp)) (p + n + 1) ⌝ ∗ ⌜ RoomFakes (fakeColumns (now ot) (now op) (now od)) n ⌝ }
-    ensures { λ _. ⌜ fakeColumns (now (ot .exit)) (now (op .exit)) (now (od .exit)) ≡ putFakes (fakeColumns (now (ot .entry)) (now (op .entry)) (now (od .entry))) (itemsFrom (fakeAt (fractalStore (now (fs .entry)) (now (fp .entry)))) p n) ⌝ }
+    requires { ⌜ RoomFractals (fractalsHeld fs fp) (p + n + 1) ⌝ ∗ ⌜ RoomFakes (fakesHeld ot op od) n ⌝ }
+    ensures { λ _. ⌜ fakesAfter ot op od ≡ putFakes (fakesBefore ot op od) (itemsFrom (fakeAt (fractalsBefore fs fp)) p n) ⌝ }
 {
     let mut j: usize = 0;
     while j < n {
@@ -95,8 +94,8 @@ fn put_fakes(
     op: &mut [[f64; 3]],
     od: &mut [u8],
 ) -> usize
-    requires { ⌜ StrokeStands stand (fractalStore (now fs) (now fp)) i ⌝ ∗ ⌜ RoomFakes (fakeColumns (now ot) (now op) (now od)) (fakeCount (fractalNumber stand i)) ⌝ }
-    ensures { λ r. ⌜ (r ≡ fakeCount (fractalNumber stand i)) × (fakeColumns (now (ot .exit)) (now (op .exit)) (now (od .exit)) ≡ putFakes (fakeColumns (now (ot .entry)) (now (op .entry)) (now (od .entry))) (readFakes stand (fractalStore (now (fs .entry)) (now (fp .entry))) i)) ⌝ }
+    requires { ⌜ StrokeStands stand (fractalsHeld fs fp) i ⌝ ∗ ⌜ RoomFakes (fakesHeld ot op od) (fakeCount (fractalNumber stand i)) ⌝ }
+    ensures { λ r. ⌜ (r ≡ fakeCount (fractalNumber stand i)) × (fakesAfter ot op od ≡ putFakes (fakesBefore ot op od) (readFakes stand (fractalsBefore fs fp) i)) ⌝ }
 {
     let counts = stand.bars;
     let fractals = stand.fractals;
@@ -130,8 +129,8 @@ fn list_fakes(
     op: &mut [[f64; 3]],
     od: &mut [u8],
 ) -> FakesAnswer
-    requires { ⌜ StrokeStands stand (fractalStore (now fs) (now fp)) i ⌝ }
-    ensures { λ r. ⌜ fakesCall (r .failed) (r .count) (fakeColumns (now (ot .exit)) (now (op .exit)) (now (od .exit))) ≡ fakesIf (fakesFit (fakeColumns (now (ot .entry)) (now (op .entry)) (now (od .entry))) (readFakes stand (fractalStore (now (fs .entry)) (now (fp .entry))) i)) (fakeColumns (now (ot .entry)) (now (op .entry)) (now (od .entry))) (readFakes stand (fractalStore (now (fs .entry)) (now (fp .entry))) i) ⌝ }
+    requires { ⌜ StrokeStands stand (fractalsHeld fs fp) i ⌝ }
+    ensures { λ r. ⌜ fakesCall (r .failed) (r .count) (fakesAfter ot op od) ≡ fakesIf (fakesFit (fakesBefore ot op od) (readFakes stand (fractalsBefore fs fp) i)) (fakesBefore ot op od) (readFakes stand (fractalsBefore fs fp) i) ⌝ }
 {
     let fractals = stand.fractals;
     let m = fractals[i];
@@ -172,7 +171,7 @@ pub fn create_fake_bis(
     op: &mut [[f64; 3]],
     od: &mut [u8],
 ) -> FakesAnswer
-    ensures { λ r. ⌜ fakesCall (r .failed) (r .count) (fakeColumns (now (ot .exit)) (now (op .exit)) (now (od .exit))) ≡ listedFakes stand (storesOf (rawStore (now (rt .entry)) (now (ri .entry)) (now (rp .entry))) (mergedStore (now (ut .entry)) (now (ui .entry)) (now (up .entry)) (now (uc .entry)) (now (ue .entry))) (mergedStore (now (st .entry)) (now (si .entry)) (now (sp .entry)) (now (sc .entry)) (now (se .entry))) (fractalStore (now (fs .entry)) (now (fp .entry)))) place (fakeColumns (now (ot .entry)) (now (op .entry)) (now (od .entry))) ⌝ }
+    ensures { λ r. ⌜ fakesCall (r .failed) (r .count) (fakesAfter ot op od) ≡ listedFakes stand (before rt ri rp ut ui up uc ue st si sp sc se fs fp) place (fakesBefore ot op od) ⌝ }
 {
     let failed = run_failed(
         stand,

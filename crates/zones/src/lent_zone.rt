@@ -1,7 +1,7 @@
 // The zone under construction, changed in place as a stroke joins.
 ghost use mathlib.Core.Path.{_≡_};
 ghost use mathlib.Core.List.{foldl};
-ghost use Rattle.zones.specs.GrowingZone.{joinedOf};
+ghost use Rattle.zones.specs.Code.GrowingZone.{joinedOf};
 use crate::GrowingZone;
 use crate::Summary;
 

@@ -3,15 +3,14 @@ ghost use mathlib.Core.Path.{_≡_};
 ghost use Prim.Native.Nat.{_+_, _-_, _≤_};
 ghost use lib.Dec.{leb};
 ghost use lib.ListN.{length};
-ghost use Rattle.stores.specs.Stores.{rawStore, mergedStore};
-ghost use Rattle.sound.specs.SoundStand.{storesOf};
+ghost use Rattle.strokes.specs.Lent.{fractalsHeld, fractalsBefore, before};
 ghost use Rattle.zones.specs.NamedRuns.{runFailed, bisUpAnswer, bisDownAnswer};
-ghost use Rattle.strokes.specs.Stored.{fractalStore};
 ghost use Rattle.zones.specs.BisUpDown.{isBisUp, isBisDown};
-ghost use Rattle.zones.specs.GrowingRun.{runOf};
-ghost use Rattle.zones.specs.StrokesRead.{summaryAt, readRun, RunStands};
+ghost use Rattle.zones.specs.Code.GrowingRun.{runOf};
+ghost use Rattle.zones.specs.Code.StrokesRead.{summaryAt, readRun, RunStands};
 use super::reading::summary_at;
 use crate::GrowingRun;
+use named::run_exists;
 use strokes::Stand;
 
 // The number of the question that was answered no, or 0, and the answer.
@@ -28,8 +27,8 @@ fn grown_run(
     first: usize,
     count: usize,
 ) -> GrowingRun
-    requires { ⌜ 1 ≤ count ⌝ ∗ ⌜ RunStands stand (fractalStore (now fs) (now fp)) first count ⌝ }
-    ensures { λ r. ⌜ r ≡ runOf (summaryAt stand (fractalStore (now (fs .entry)) (now (fp .entry))) first) (readRun stand (fractalStore (now (fs .entry)) (now (fp .entry))) (first + 1) (count - 1)) ⌝ }
+    requires { ⌜ 1 ≤ count ⌝ ∗ ⌜ RunStands stand (fractalsHeld fs fp) first count ⌝ }
+    ensures { λ r. ⌜ r ≡ runOf (summaryAt stand (fractalsBefore fs fp) first) (readRun stand (fractalsBefore fs fp) (first + 1) (count - 1)) ⌝ }
 {
     let a = summary_at(stand, fs, fp, first);
     let mut w = GrowingRun::start(a);
@@ -44,8 +43,8 @@ fn grown_run(
 }
 
 fn run_goes_up(stand: Stand, fs: &[[i64; 6]], fp: &[[f64; 18]], first: usize, count: usize) -> bool
-    requires { ⌜ RunStands stand (fractalStore (now fs) (now fp)) first count ⌝ }
-    ensures { λ r. ⌜ r ≡ isBisUp (readRun stand (fractalStore (now (fs .entry)) (now (fp .entry))) first count) ⌝ }
+    requires { ⌜ RunStands stand (fractalsHeld fs fp) first count ⌝ }
+    ensures { λ r. ⌜ r ≡ isBisUp (readRun stand (fractalsBefore fs fp) first count) ⌝ }
 {
     if count == 0 {
         return false;
@@ -61,27 +60,14 @@ fn run_goes_down(
     first: usize,
     count: usize,
 ) -> bool
-    requires { ⌜ RunStands stand (fractalStore (now fs) (now fp)) first count ⌝ }
-    ensures { λ r. ⌜ r ≡ isBisDown (readRun stand (fractalStore (now (fs .entry)) (now (fp .entry))) first count) ⌝ }
+    requires { ⌜ RunStands stand (fractalsHeld fs fp) first count ⌝ }
+    ensures { λ r. ⌜ r ≡ isBisDown (readRun stand (fractalsBefore fs fp) first count) ⌝ }
 {
     if count == 0 {
         return false;
     }
     let w = grown_run(stand, fs, fp, first, count);
     w.is_bis_down()
-}
-
-// Question 13. The sum of first and count could be too large for a usize.
-fn run_exists(stand: Stand, first: usize, count: usize) -> bool
-    ensures { λ r. ⌜ (r ≡ leb (first + count) (stand .strokes)) × (length (stand .bars) ≡ 65) × (length (stand .fractals) ≡ 65) ⌝ }
-{
-    let bars = stand.bars;
-    let fractals = stand.fractals;
-    let n = stand.strokes;
-    if n < count {
-        return false;
-    }
-    first <= n - count
 }
 
 // Questions 4 and 13 of a run.
@@ -105,10 +91,10 @@ pub fn run_failed(
     first: usize,
     count: usize,
 ) -> u64
-    ensures { λ r. ⌜ (r ≡ runFailed stand (storesOf (rawStore (now (rt .entry)) (now (ri .entry)) (now (rp .entry))) (mergedStore (now (ut .entry)) (now (ui .entry)) (now (up .entry)) (now (uc .entry)) (now (ue .entry))) (mergedStore (now (st .entry)) (now (si .entry)) (now (sp .entry)) (now (sc .entry)) (now (se .entry))) (fractalStore (now (fs .entry)) (now (fp .entry)))) first count) × (length (stand .bars) ≡ 65) × (length (stand .fractals) ≡ 65) ⌝ }
+    ensures { λ r. ⌜ (r ≡ runFailed stand (before rt ri rp ut ui up uc ue st si sp sc se fs fp) first count) × (length (stand .bars) ≡ 65) × (length (stand .fractals) ≡ 65) ⌝ }
 {
     let exists = run_exists(stand, first, count);
-    if !sound::is_sound(
+    if !question4::is_sound(
         stand,
         rt,
         ri,
@@ -155,7 +141,7 @@ pub fn is_bis_up(
     first: usize,
     count: usize,
 ) -> RunAnswer
-    ensures { λ r. ⌜ r ≡ bisUpAnswer stand (storesOf (rawStore (now (rt .entry)) (now (ri .entry)) (now (rp .entry))) (mergedStore (now (ut .entry)) (now (ui .entry)) (now (up .entry)) (now (uc .entry)) (now (ue .entry))) (mergedStore (now (st .entry)) (now (si .entry)) (now (sp .entry)) (now (sc .entry)) (now (se .entry))) (fractalStore (now (fs .entry)) (now (fp .entry)))) first count ⌝ }
+    ensures { λ r. ⌜ r ≡ bisUpAnswer stand (before rt ri rp ut ui up uc ue st si sp sc se fs fp) first count ⌝ }
 {
     let failed = run_failed(
         stand,
@@ -211,7 +197,7 @@ pub fn is_bis_down(
     first: usize,
     count: usize,
 ) -> RunAnswer
-    ensures { λ r. ⌜ r ≡ bisDownAnswer stand (storesOf (rawStore (now (rt .entry)) (now (ri .entry)) (now (rp .entry))) (mergedStore (now (ut .entry)) (now (ui .entry)) (now (up .entry)) (now (uc .entry)) (now (ue .entry))) (mergedStore (now (st .entry)) (now (si .entry)) (now (sp .entry)) (now (sc .entry)) (now (se .entry))) (fractalStore (now (fs .entry)) (now (fp .entry)))) first count ⌝ }
+    ensures { λ r. ⌜ r ≡ bisDownAnswer stand (before rt ri rp ut ui up uc ue st si sp sc se fs fp) first count ⌝ }
 {
     let failed = run_failed(
         stand,

@@ -3,7 +3,7 @@
 ghost use mathlib.Core.Path.{_≡_};
 ghost use lib.Signed.{ltZ};
 ghost use Rattle.zones.specs.BisUpDown.{goesUp, goesDown};
-ghost use Rattle.zones.specs.GrowingRun.{begun, inOrderWith, threeWith, moreOf, isRunOf, upOf, downOf};
+ghost use Rattle.zones.specs.Code.GrowingRun.{begun, inOrderWith, threeWith, moreOf, isRunOf, upOf, downOf};
 use crate::Summary;
 use machine::Direction;
 

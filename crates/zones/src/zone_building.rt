@@ -3,7 +3,7 @@
 ghost use mathlib.Core.Path.{_≡_};
 ghost use mathlib.Core.Bool.{_&&_};
 ghost use Rattle.zones.specs.Zones.{within, meetsRange};
-ghost use Rattle.zones.specs.GrowingZone.{started, joinedEarly, joinedLater, joinedOf, opensOf, zzOf, firstMeet, validOf};
+ghost use Rattle.zones.specs.Code.GrowingZone.{started, joinedEarly, joinedLater, joinedOf, opensOf, zzOf, firstMeet, validOf};
 use crate::Summary;
 use machine::Direction;
 

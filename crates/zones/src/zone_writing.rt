@@ -1,17 +1,16 @@
 // get_zs_seq of a run of kept strokes: its zones are counted, and written to lent columns.
 ghost use mathlib.Core.Path.{_≡_};
-ghost use mathlib.Core.List.{map};
-ghost use Prim.Native.Nat.{_+_, _<_, _≤_};
+ghost use Prim.Native.Nat.{_+_, _<_};
 ghost use lib.ListN.{length, set};
-ghost use Rattle.stores.specs.Stores.{rawStore, mergedStore};
-ghost use Rattle.sound.specs.SoundStand.{storesOf};
-ghost use Rattle.zones.specs.ListedZones.{zonesFit, strokesFit, zonesIf, zonesCall, listedZones};
-ghost use Rattle.strokes.specs.Stored.{fractalStore};
+ghost use Rattle.strokes.specs.Lent.{fractalsHeld, fractalsBefore, before};
+ghost use Rattle.zones.specs.ListedZones.{zonesCall, listedZones};
 ghost use Rattle.zones.specs.Zones.{zones, getZsSeq};
-ghost use Rattle.zones.specs.GrowingZone.{opensOf};
-ghost use Rattle.zones.specs.StrokesRead.{readRun, RunStands};
+ghost use Rattle.zones.specs.Code.GrowingZone.{opensOf};
+ghost use Rattle.zones.specs.Code.StrokesRead.{readRun, RunStands};
 ghost use Rattle.zones.specs.FakeRows.{directionCode};
-ghost use Rattle.zones.specs.ZoneRows.{flag, buildingOf, nextOf, setZone, setIf, zoneColumns, putZones, RoomZones, strokeTimes, strokePrices, strokeCode, strokeColumns, putStrokes, RoomStrokes};
+ghost use Rattle.zones.specs.ZoneRows.{flag, putZones, strokeTimes, strokePrices, strokeCode, strokeColumns, putStrokes};
+ghost use Rattle.zones.specs.Code.ZoneSteps.{buildingOf, nextOf, setZone, setIf, RoomZones, RoomStrokes, zonesReadIf};
+ghost use Rattle.zones.specs.Lent.{strokesAfter, strokesBefore, strokesHeld, zonesAfter, zonesBefore, zonesHeld};
 use super::fake_writing::direction_code;
 use super::fake_writing::fits;
 use super::named_runs::run_failed;
@@ -97,8 +96,8 @@ pub fn count_zones(
     first: usize,
     count: usize,
 ) -> usize
-    requires { ⌜ RunStands stand (fractalStore (now fs) (now fp)) first count ⌝ }
-    ensures { λ r. ⌜ r ≡ length (zones (readRun stand (fractalStore (now (fs .entry)) (now (fp .entry))) first count)) ⌝ }
+    requires { ⌜ RunStands stand (fractalsHeld fs fp) first count ⌝ }
+    ensures { λ r. ⌜ r ≡ length (zones (readRun stand (fractalsBefore fs fp) first count)) ⌝ }
 {
     if count == 0 {
         return 0;
@@ -117,8 +116,8 @@ pub fn count_zones(
 
 // The rows of the zone under construction, after those of the zones that are done.
 fn write_zone(b: Building, zt: &mut [[i64; 2]], zp: &mut [[f64; 5]], zn: &mut [[usize; 4]])
-    requires { ⌜ RoomZones (zoneColumns (now zt) (now zp) (now zn)) (b .done + 1) ⌝ }
-    ensures { λ _. ⌜ zoneColumns (now (zt .exit)) (now (zp .exit)) (now (zn .exit)) ≡ setZone (zoneColumns (now (zt .entry)) (now (zp .entry)) (now (zn .entry))) b ⌝ }
+    requires { ⌜ RoomZones (zonesHeld zt zp zn) (b .done + 1) ⌝ }
+    ensures { λ _. ⌜ zonesAfter zt zp zn ≡ setZone (zonesBefore zt zp zn) b ⌝ }
 {
     let zone = b.zone;
     let first = zone.first;
@@ -147,8 +146,8 @@ fn write_done(
     zp: &mut [[f64; 5]],
     zn: &mut [[usize; 4]],
 )
-    requires { ⌜ RoomZones (zoneColumns (now zt) (now zp) (now zn)) (b .done + 1) ⌝ }
-    ensures { λ _. ⌜ zoneColumns (now (zt .exit)) (now (zp .exit)) (now (zn .exit)) ≡ setIf (opensOf (b .zone) s) (zoneColumns (now (zt .entry)) (now (zp .entry)) (now (zn .entry))) b ⌝ }
+    requires { ⌜ RoomZones (zonesHeld zt zp zn) (b .done + 1) ⌝ }
+    ensures { λ _. ⌜ zonesAfter zt zp zn ≡ setIf (opensOf (b .zone) s) (zonesBefore zt zp zn) b ⌝ }
 {
     let zone = b.zone;
     if zone.opens(s) {
@@ -168,8 +167,8 @@ pub fn write_zones(
     zp: &mut [[f64; 5]],
     zn: &mut [[usize; 4]],
 )
-    requires { ⌜ RunStands stand (fractalStore (now fs) (now fp)) first count ⌝ ∗ ⌜ RoomZones (zoneColumns (now zt) (now zp) (now zn)) (length (zones (readRun stand (fractalStore (now fs) (now fp)) first count))) ⌝ }
-    ensures { λ _. ⌜ zoneColumns (now (zt .exit)) (now (zp .exit)) (now (zn .exit)) ≡ putZones (zoneColumns (now (zt .entry)) (now (zp .entry)) (now (zn .entry))) (getZsSeq (readRun stand (fractalStore (now (fs .entry)) (now (fp .entry))) first count)) ⌝ }
+    requires { ⌜ RunStands stand (fractalsHeld fs fp) first count ⌝ ∗ ⌜ RoomZones (zonesHeld zt zp zn) (length (zones (readRun stand (fractalsHeld fs fp) first count))) ⌝ }
+    ensures { λ _. ⌜ zonesAfter zt zp zn ≡ putZones (zonesBefore zt zp zn) (getZsSeq (readRun stand (fractalsBefore fs fp) first count)) ⌝ }
 {
     if count == 0 {
         return;
@@ -189,8 +188,8 @@ pub fn write_zones(
 
 // The rows of a stroke.
 fn write_stroke(s: Summary, bt: &mut [[i64; 2]], bp: &mut [[f64; 2]], bd: &mut [u8], at: usize)
-    requires { ⌜ RoomStrokes (strokeColumns (now bt) (now bp) (now bd)) (at + 1) ⌝ }
-    ensures { λ _. ⌜ strokeColumns (now (bt .exit)) (now (bp .exit)) (now (bd .exit)) ≡ strokeColumns (set (now (bt .entry)) at (strokeTimes s)) (set (now (bp .entry)) at (strokePrices s)) (set (now (bd .entry)) at (strokeCode s)) ⌝ }
+    requires { ⌜ RoomStrokes (strokesHeld bt bp bd) (at + 1) ⌝ }
+    ensures { λ _. ⌜ strokesAfter bt bp bd ≡ strokeColumns (set (now (bt .entry)) at (strokeTimes s)) (set (now (bp .entry)) at (strokePrices s)) (set (now (bd .entry)) at (strokeCode s)) ⌝ }
 {
     let d = s.direction;
     let code = direction_code(d);
@@ -212,8 +211,8 @@ pub fn write_strokes(
     bp: &mut [[f64; 2]],
     bd: &mut [u8],
 )
-    requires { ⌜ RunStands stand (fractalStore (now fs) (now fp)) first count ⌝ ∗ ⌜ RoomStrokes (strokeColumns (now bt) (now bp) (now bd)) count ⌝ }
-    ensures { λ _. ⌜ strokeColumns (now (bt .exit)) (now (bp .exit)) (now (bd .exit)) ≡ putStrokes (strokeColumns (now (bt .entry)) (now (bp .entry)) (now (bd .entry))) (readRun stand (fractalStore (now (fs .entry)) (now (fp .entry))) first count) ⌝ }
+    requires { ⌜ RunStands stand (fractalsHeld fs fp) first count ⌝ ∗ ⌜ RoomStrokes (strokesHeld bt bp bd) count ⌝ }
+    ensures { λ _. ⌜ strokesAfter bt bp bd ≡ putStrokes (strokesBefore bt bp bd) (readRun stand (fractalsBefore fs fp) first count) ⌝ }
 {
     let mut j: usize = 0;
     while j < count {
@@ -238,8 +237,8 @@ fn list_zones(
     bp: &mut [[f64; 2]],
     bd: &mut [u8],
 ) -> ZonesAnswer
-    requires { ⌜ RunStands stand (fractalStore (now fs) (now fp)) first count ⌝ }
-    ensures { λ r. ⌜ zonesCall (r .failed) (r .zones) (r .strokes) (zoneColumns (now (zt .exit)) (now (zp .exit)) (now (zn .exit))) (strokeColumns (now (bt .exit)) (now (bp .exit)) (now (bd .exit))) ≡ zonesIf (zonesFit (zoneColumns (now (zt .entry)) (now (zp .entry)) (now (zn .entry))) (getZsSeq (readRun stand (fractalStore (now (fs .entry)) (now (fp .entry))) first count))) (strokesFit (strokeColumns (now (bt .entry)) (now (bp .entry)) (now (bd .entry))) (readRun stand (fractalStore (now (fs .entry)) (now (fp .entry))) first count)) (zoneColumns (now (zt .entry)) (now (zp .entry)) (now (zn .entry))) (strokeColumns (now (bt .entry)) (now (bp .entry)) (now (bd .entry))) (readRun stand (fractalStore (now (fs .entry)) (now (fp .entry))) first count) ⌝ }
+    requires { ⌜ RunStands stand (fractalsHeld fs fp) first count ⌝ }
+    ensures { λ r. ⌜ zonesCall (r .failed) (r .zones) (r .strokes) (zonesAfter zt zp zn) (strokesAfter bt bp bd) ≡ zonesReadIf (zonesBefore zt zp zn) (strokesBefore bt bp bd) (readRun stand (fractalsBefore fs fp) first count) ⌝ }
 {
     let n = count_zones(stand, fs, fp, first, count);
     if !fits(n, zt.len(), zp.len(), zn.len()) {
@@ -292,7 +291,7 @@ pub fn get_zs_seq(
     bp: &mut [[f64; 2]],
     bd: &mut [u8],
 ) -> ZonesAnswer
-    ensures { λ r. ⌜ zonesCall (r .failed) (r .zones) (r .strokes) (zoneColumns (now (zt .exit)) (now (zp .exit)) (now (zn .exit))) (strokeColumns (now (bt .exit)) (now (bp .exit)) (now (bd .exit))) ≡ listedZones stand (storesOf (rawStore (now (rt .entry)) (now (ri .entry)) (now (rp .entry))) (mergedStore (now (ut .entry)) (now (ui .entry)) (now (up .entry)) (now (uc .entry)) (now (ue .entry))) (mergedStore (now (st .entry)) (now (si .entry)) (now (sp .entry)) (now (sc .entry)) (now (se .entry))) (fractalStore (now (fs .entry)) (now (fp .entry)))) first count (zoneColumns (now (zt .entry)) (now (zp .entry)) (now (zn .entry))) (strokeColumns (now (bt .entry)) (now (bp .entry)) (now (bd .entry))) ⌝ }
+    ensures { λ r. ⌜ zonesCall (r .failed) (r .zones) (r .strokes) (zonesAfter zt zp zn) (strokesAfter bt bp bd) ≡ listedZones stand (before rt ri rp ut ui up uc ue st si sp sc se fs fp) first count (zonesBefore zt zp zn) (strokesBefore bt bp bd) ⌝ }
 {
     let failed = run_failed(
         stand,

@@ -1,6 +1,6 @@
 use Rattle.arith.proofs.SumLaws.{acceleration-is}
 use Rattle.arith.specs.declared.sums.FitSums.{FitSums}
-use Rattle.arith.specs.Sums.{fitMore, fitEnd}
+use Rattle.arith.specs.Code.Accumulators.{fitMore, fitEnd}
 use mathlib.Core.List.{foldl}
 use mathlib.Core.Path.{ap, _∙_}
 use borrow.Author.Needs.{needs}

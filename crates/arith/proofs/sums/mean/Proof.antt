@@ -1,6 +1,6 @@
 use Rattle.arith.proofs.SumLaws.{mean-is}
 use Rattle.arith.specs.declared.sums.MeanSums.{MeanSums}
-use Rattle.arith.specs.Sums.{meanMore, meanEnd}
+use Rattle.arith.specs.Code.Accumulators.{meanMore, meanEnd}
 use mathlib.Core.List.{foldl}
 use mathlib.Core.Path.{ap, _∙_}
 use borrow.Author.Needs.{needs}

@@ -1,7 +1,7 @@
 use Rattle.arith.proofs.SumLaws.{slope-is}
 use Rattle.arith.specs.declared.sums.SlopeSums.{SlopeSums}
 use Rattle.arith.specs.declared.sums.MeanSums.{MeanSums}
-use Rattle.arith.specs.Sums.{meanMore, slopeStart, slopeMore, slopeEnd}
+use Rattle.arith.specs.Code.Accumulators.{meanMore, slopeStart, slopeMore, slopeEnd}
 use mathlib.Core.List.{foldl}
 use mathlib.Core.Path.{ap, _∙_}
 use borrow.Author.Needs.{needs}

@@ -1,6 +1,7 @@
 use Rattle.arith.proofs.SumLaws.{snr-is}
 use Rattle.arith.specs.declared.sums.SnrSums.{SnrSums}
-use Rattle.arith.specs.Sums.{snrMore, snrEnd, pairs}
+use Rattle.arith.specs.Sums.{pairs}
+use Rattle.arith.specs.Code.Accumulators.{snrMore, snrEnd}
 use mathlib.Core.List.{foldl}
 use mathlib.Core.Path.{ap, _∙_}
 use borrow.Author.Needs.{needs}

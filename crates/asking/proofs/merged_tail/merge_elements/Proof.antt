@@ -6,9 +6,9 @@ use lib.ListN.{length, take, drop}
 use mir.Syntax.{w64}
 use mir.ValLaws.{toZ-ofZ}
 use Rattle.bars.specs.Merging.{atTimes}
-use Rattle.bars.specs.MergedBars.{mergeBarsAll}
+use Rattle.bars.specs.Code.MergedBars.{mergeBarsAll}
 use Rattle.stores.specs.Stores.{rawStore, rawBars}
-use Rattle.check_bi.specs.View.{view}
+use Rattle.check_bi.specs.Code.View.{view}
 use Rattle.asking.proofs.MergedTails.{TailGoing}
 use Rattle.asking.proofs.TailsAgain.{run-first, run-can, run-turn, run-end}
 use Rattle.asking.proofs.merged_tail.merge_elements.Statement.{statement}

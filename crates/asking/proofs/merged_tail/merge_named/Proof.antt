@@ -8,8 +8,9 @@ use mir.Syntax.{w64}
 use mir.Val.{toZ, ofZ}
 use mir.ValLaws.{toZ-ofZ}
 use Rattle.bars.specs.Merging.{atTimes}
-use Rattle.stores.specs.Stores.{rawStore, placeOf}
-use Rattle.strokes.specs.StoreSteps.{keptRaw}
+use Rattle.stores.specs.Stores.{rawStore}
+use Rattle.stores.specs.Code.StoreRows.{placeOf}
+use Rattle.strokes.specs.Code.BarSteps.{keptRaw}
 use Rattle.strokes.proofs.StoredAgain.{none-past, none-there, one-there, keeping}
 use Rattle.asking.proofs.MergedTails.{rises, named-none, named-one}
 use Rattle.asking.proofs.merged_tail.merge_named.Statement.{statement}

@@ -3,7 +3,7 @@ use native.Mathlib.Omega.{arith}
 use mathlib.Core.Path.{sym, _∙_}
 use mir.Syntax.{w64}
 use mir.ValLaws.{toZ-ofZ}
-use Rattle.check_bi.specs.View.{view}
+use Rattle.check_bi.specs.Code.View.{view}
 use Rattle.asking.proofs.PlanLaws.{broken-yes, broken-no, broken-in}
 use borrow.Author.Needs.{needs}
 use Rattle.asking.proofs.plan.broken_plan.Statement.{statement}

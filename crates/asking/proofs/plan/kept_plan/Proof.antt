@@ -1,5 +1,5 @@
 use mathlib.Core.Path.{refl}
-use Rattle.asking.specs.FeedPlan.{keptOf}
+use Rattle.asking.specs.Code.FeedPlan.{keptOf}
 use Rattle.asking.proofs.PlanLaws.{kept-in}
 use borrow.Author.Needs.{needs}
 use Rattle.asking.proofs.plan.kept_plan.Statement.{statement}

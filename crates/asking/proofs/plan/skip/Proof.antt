@@ -6,8 +6,8 @@ use lib.IntN.{ℤ}
 use mir.Syntax.{w64}
 use mir.Val.{toZ, ofZ}
 use mir.ValLaws.{toZ-ofZ}
-use Rattle.stores.specs.Stores.{placeOf}
-use Rattle.check_bi.specs.View.{view}
+use Rattle.stores.specs.Code.StoreRows.{placeOf}
+use Rattle.check_bi.specs.Code.View.{view}
 use Rattle.check_bi.proofs.ScanViews.{length-view}
 use Rattle.asking.proofs.PlanLaws.{skip-turn, skip-here, skip-end}
 use borrow.Author.Needs.{needs}

@@ -4,8 +4,7 @@ use native.Mathlib.Omega.{arith}
 use mathlib.Core.Path.{_≡_}
 use lib.ListN.{length}
 use Rattle.stores.specs.Stores.{rawStore, mergedStore}
-use Rattle.strokes.specs.Stored.{fractalStore}
-use Rattle.sound.specs.SoundStand.{storesOf}
+use Rattle.strokes.specs.Lent.{fractalStore, storesOf}
 use Rattle.sound.proofs.SoundFacts.{facts}
 use Rattle.asking.proofs.AskedMeans.{early-asks, asked-early, can-try, asked-last, sum-small}
 use Rattle.asking.proofs.questions.ask.Statement.{statement}

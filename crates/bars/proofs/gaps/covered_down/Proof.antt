@@ -1,5 +1,5 @@
 use Rattle.bars.proofs.GapPairs.{found, passed, ended}
-use Rattle.bars.specs.Gaps.{coversDown, highOf, lowOf}
+use Rattle.bars.specs.Gaps.{coversDown, rowHigh, rowLow}
 use Rattle.bars.specs.Lists.{some-of}
 use lib.ListN.{getD, drop, take}
 use mathlib.Core.List.{[]}
@@ -38,7 +38,7 @@ array-read-if1 : tie.Need-array-read-if1 Inv-loop μ-loop
 array-read-if1 c = search needs
 
 returns : tie.Need-returns Inv-loop μ-loop
-unfolding coversDown highOf lowOf
+unfolding coversDown rowHigh rowLow
 returns c = let s = c .before .before .before .before .before .args in found (coversDown (getD (s .prices .now) (s .i) [])) (s .prices .now) (s .n) (c .before .before .before .loop .j) [] (search needs) (search needs) (c .if1 .taken) ∙ c .before .before .before .loop .inv .1
 
 add-j : tie.Need-add-j Inv-loop μ-loop
@@ -48,7 +48,7 @@ loop-less : tie.Need-loop-less Inv-loop μ-loop
 loop-less c = search needs
 
 loop-again : tie.Need-loop-again Inv-loop μ-loop
-unfolding coversDown highOf lowOf
+unfolding coversDown rowHigh rowLow
 loop-again c = let s = c .before .before .before .before .before .args in (search needs, passed (coversDown (getD (s .prices .now) (s .i) [])) (s .prices .now) (s .n) (c .before .before .before .loop .j) [] (search needs) (search needs) (c .if1 .left) ∙ c .before .before .before .loop .inv .1)
 
 returns-2 : tie.Need-returns-2 Inv-loop μ-loop

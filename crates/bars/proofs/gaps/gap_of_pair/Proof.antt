@@ -1,5 +1,5 @@
 use Rattle.bars.proofs.GapPairs.{gap-up, gap-down, gap-none}
-use Rattle.bars.specs.Gaps.{highOf, lowOf}
+use Rattle.bars.specs.Gaps.{rowHigh, rowLow}
 use lib.ListN.{getD, drop, take}
 use mathlib.Core.List.{[]}
 use borrow.Author.Needs.{needs}
@@ -37,7 +37,7 @@ ratio-requires : tie.Need-ratio-requires
 ratio-requires c κs = search needs
 
 returns : tie.Need-returns
-unfolding highOf lowOf
+unfolding rowHigh rowLow
 returns c = let s = c .before .before .before .before .before .args in let ps = s .prices .now in gap-up (getD ps (s .i) []) (getD ps (s .j) []) (drop (s .j) (take (s .n) ps)) _ _ (c .before .before .if1 .taken) (c .ratio .ensures) (c .before .covered-up .ensures)
 
 covered-down-requires : tie.Need-covered-down-requires
@@ -47,11 +47,11 @@ ratio-requires-2 : tie.Need-ratio-requires-2
 ratio-requires-2 c κs = search needs
 
 returns-2 : tie.Need-returns-2
-unfolding highOf lowOf
+unfolding rowHigh rowLow
 returns-2 c = let s = c .before .before .before .before .before .before .args in let ps = s .prices .now in gap-down (getD ps (s .i) []) (getD ps (s .j) []) (drop (s .j) (take (s .n) ps)) _ _ (c .before .before .before .if1 .left) (c .before .before .if2 .taken) (c .ratio2 .ensures) (c .before .covered-down .ensures)
 
 returns-3 : tie.Need-returns-3
-unfolding highOf lowOf
+unfolding rowHigh rowLow
 returns-3 c = let s = c .before .before .before .before .args in let ps = s .prices .now in gap-none (getD ps (s .i) []) (getD ps (s .j) []) (drop (s .j) (take (s .n) ps)) (c .before .if1 .left) (c .if2 .left)
 
 pub gap-of-pair-spec : {M : Type 1} → statement M

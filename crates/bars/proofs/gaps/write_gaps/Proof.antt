@@ -1,5 +1,5 @@
 use Rattle.bars.proofs.GapPairs.{column-turn}
-use Rattle.bars.proofs.Moves.{copied-none, copied-end}
+use Rattle.bars.proofs.Moves.{copied-none}
 use Rattle.bars.specs.Lists.{copied}
 use Rattle.bars.specs.Gaps.{gapNumber, gapValues, gapCovered, gapsOf, written}
 use lib.ListN.{length, getD, drop, take}

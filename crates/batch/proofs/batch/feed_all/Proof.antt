@@ -1,6 +1,5 @@
-use Rattle.sound.specs.SoundStand.{storesOf}
+use Rattle.strokes.specs.Lent.{storesOf, fractalStore}
 use Rattle.stores.specs.Stores.{rawStore, mergedStore, rawBars}
-use Rattle.strokes.specs.Stored.{fractalStore}
 use Rattle.batch.proofs.BatchLoop.{batch-refused, batch-answered}
 use Rattle.batch.proofs.BatchSteps.{call-none, call-can, call-unsized, batch-lengths}
 use borrow.Author.Needs.{needs}

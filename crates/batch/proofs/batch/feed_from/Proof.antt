@@ -1,7 +1,6 @@
 use native.Mathlib.Omega.{arith}
-use Rattle.sound.specs.SoundStand.{storesOf}
+use Rattle.strokes.specs.Lent.{storesOf, fractalStore}
 use Rattle.stores.specs.Stores.{rawStore, mergedStore}
-use Rattle.strokes.specs.Stored.{fractalStore}
 use Rattle.batch.proofs.BatchLoop.{Onward, onward-start, can-next, onward-next, fewer-left, same-lengths}
 use Rattle.batch.proofs.BatchSteps.{loop-done}
 use borrow.Author.Needs.{needs}

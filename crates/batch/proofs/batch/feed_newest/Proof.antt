@@ -1,4 +1,4 @@
-use Rattle.sound.specs.SoundStand.{storesOf}
+use Rattle.strokes.specs.Lent.{storesOf}
 use Rattle.batch.proofs.BatchSteps.{asked-room, feed-asks, feed-refused, feed-lengths}
 use borrow.Author.Needs.{needs}
 use Rattle.batch.proofs.batch.feed_newest.Statement.{statement}

@@ -1,6 +1,5 @@
-use Rattle.sound.specs.SoundStand.{storesOf}
-use Rattle.stores.specs.Stores.{rawStore, mergedStore}
-use Rattle.strokes.specs.Stored.{fractalStore}
+use Rattle.strokes.specs.Lent.{storesOf}
+use Rattle.stores.specs.Stores.{rawStore}
 use Rattle.batch.proofs.BatchLoop.{can-advance}
 use Rattle.batch.proofs.BatchSteps.{feed-lengths, next-is}
 use borrow.Author.Needs.{needs}

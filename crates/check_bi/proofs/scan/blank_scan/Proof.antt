@@ -1,5 +1,4 @@
-use Rattle.check_bi.specs.declared.scan.Scan.{Scan}
-use Rattle.check_bi.specs.Scan.{blank}
+use Rattle.check_bi.specs.Code.Scan.{blank}
 use borrow.Author.Needs.{needs}
 use Rattle.check_bi.proofs.scan.blank_scan.Statement.{statement}
 use Rattle.check_bi.proofs.scan.blank_scan.Tie as tie

@@ -1,7 +1,7 @@
 use Prim.Native.Nat.{_+_, _-_, _<_}
 use native.Mathlib.Omega.{arith}
 use mathlib.Core.Path.{sym, _∙_}
-use Rattle.check_bi.specs.Windows.{NoneBetween}
+use Rattle.check_bi.specs.Code.Windows.{NoneBetween}
 use Rattle.check_bi.proofs.ScanWindows.{none-yet, none-turn, next-here, next-end}
 use borrow.Author.Needs.{needs}
 use Rattle.check_bi.proofs.scan.next_fractal.Statement.{statement}

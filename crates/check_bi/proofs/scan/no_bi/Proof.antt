@@ -1,4 +1,4 @@
-use Rattle.check_bi.specs.Scan.{foundIf}
+use Rattle.check_bi.specs.Code.Scan.{foundIf}
 use borrow.Author.Needs.{needs}
 use Rattle.check_bi.proofs.scan.no_bi.Statement.{statement}
 use Rattle.check_bi.proofs.scan.no_bi.Tie as tie

@@ -1,5 +1,5 @@
 use mathlib.Core.Path.{refl}
-use Rattle.check_bi.specs.Scan.{noFx}
+use Rattle.check_bi.specs.Code.Scan.{noFx}
 use borrow.Author.Needs.{needs}
 use Rattle.check_bi.proofs.scan.no_fx.Statement.{statement}
 use Rattle.check_bi.proofs.scan.no_fx.Tie as tie

@@ -1,5 +1,5 @@
 use mathlib.Core.Path.{refl}
-use Rattle.check_bi.specs.Scan.{openedOf}
+use Rattle.check_bi.specs.Code.Scan.{openedOf}
 use borrow.Author.Needs.{needs}
 use Rattle.check_bi.proofs.scan.opened.Statement.{statement}
 use Rattle.check_bi.proofs.scan.opened.Tie as tie

@@ -1,5 +1,5 @@
-use Rattle.check_bi.specs.View.{candleFrom}
-use Rattle.check_bi.specs.Windows.{rowAt}
+use Rattle.check_bi.specs.Code.View.{candleFrom}
+use Rattle.check_bi.specs.Code.Windows.{rowAt}
 use mathlib.Core.Path.{refl}
 use borrow.Author.Needs.{needs}
 use Rattle.check_bi.proofs.scan.row_at.Statement.{statement}

@@ -4,8 +4,8 @@ use mathlib.Core.Path.{_≡_}
 use mathlib.Core.List.{[]}
 use lib.IntN.{pos}
 use lib.ListN.{getD, drop}
-use Rattle.check_bi.specs.View.{view, candleFrom, candles}
-use Rattle.check_bi.specs.Scan.{Small, scanFrom, scanOf}
+use Rattle.check_bi.specs.Code.View.{view, candleFrom, candles}
+use Rattle.check_bi.specs.Code.Scan.{Small, scanFrom, scanOf}
 use Rattle.check_bi.proofs.ScanViews.{scan-none}
 use Rattle.check_bi.proofs.ScanWindows.{windows-began, windows-turned, windows-done}
 use borrow.Author.Needs.{needs}

@@ -1,4 +1,4 @@
-use Rattle.czsc_c.proofs.PackedLaws.{batch-packed}
+use Rattle.czsc_c.proofs.HandedLaws.{batch-packed}
 use borrow.Author.Needs.{needs}
 use Rattle.czsc_c.proofs.calls.czsc_feed_all.Statement.{statement}
 use Rattle.czsc_c.proofs.calls.czsc_feed_all.Tie as tie

@@ -1,7 +1,7 @@
 use mir.Syntax.{w32, w64}
 use mir.ValLaws.{toZ-ofZ}
-use Rattle.czsc_c.specs.Packed.{barWith}
-use Rattle.czsc_c.proofs.PackedLaws.{fed-packed}
+use Rattle.czsc_c.specs.Handed.{barWith}
+use Rattle.czsc_c.proofs.HandedLaws.{fed-packed}
 use borrow.Author.Needs.{needs}
 use Rattle.czsc_c.proofs.calls.czsc_update_bar.Statement.{statement}
 use Rattle.czsc_c.proofs.calls.czsc_update_bar.Tie as tie

@@ -1,6 +1,5 @@
 use Rattle.stores.specs.Stores.{rawStore, mergedStore}
-use Rattle.strokes.specs.Stored.{fractalStore}
-use Rattle.sound.specs.SoundStand.{storesOf}
+use Rattle.strokes.specs.Lent.{fractalStore, storesOf}
 use Rattle.feed.proofs.FeedLaws.{feed-no, can-write, feed-yes, fed-lengths}
 use borrow.Author.Needs.{needs}
 use Rattle.feed.proofs.feed.feed_sound.Statement.{statement}

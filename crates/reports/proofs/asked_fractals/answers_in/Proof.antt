@@ -1,4 +1,3 @@
-use Rattle.reports.specs.declared.asked_fractals.FractalAnswer.{FractalAnswer}
 use Rattle.reports.specs.declared.fractal_answers.FractalAnswers.{FractalAnswers}
 use mathlib.Core.Path.{ap}
 use native.Mathlib.Omega.{arith}

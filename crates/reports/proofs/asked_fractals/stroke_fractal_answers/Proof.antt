@@ -1,7 +1,7 @@
 use Rattle.reports.proofs.NamedAnswers.{stroke-none, stroke-kept, stroke-after, answers-unsound, answers-missing, answers-fit, answers-in}
 use Rattle.reports.proofs.StrokeColumns.{rows-small, lends}
-use Rattle.sound.proofs.SoundFacts.{is-sound as sound-of}
-use Rattle.sound.specs.SoundStand.{storesOf}
+use Rattle.question4.proofs.Question4Passed.{is-sound as sound-of}
+use Rattle.strokes.specs.Lent.{storesOf}
 use borrow.Author.Tests.{not-true, not-false}
 use mathlib.Core.Path.{_≡_, refl, sym, _∙_}
 use borrow.Author.Needs.{needs}

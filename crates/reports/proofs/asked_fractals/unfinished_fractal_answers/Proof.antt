@@ -1,6 +1,6 @@
 use mathlib.Core.Path.{sym, _∙_}
 use borrow.Author.Tests.{not-true, not-false}
-use Rattle.sound.specs.SoundStand.{storesOf}
+use Rattle.strokes.specs.Lent.{storesOf}
 use Rattle.reports.proofs.SeekLaws.{seek-fits, unfinished-unsound, unfinished-given}
 use borrow.Author.Needs.{needs}
 use Rattle.reports.proofs.asked_fractals.unfinished_fractal_answers.Statement.{statement}

@@ -1,7 +1,7 @@
 use Rattle.reports.proofs.NamedAnswers.{stroke-none, stroke-kept, stroke-after, measures-unsound, measures-missing, measures-given}
 use Rattle.reports.proofs.StrokeColumns.{rows-small, lends, can-measure, shown-by}
-use Rattle.sound.proofs.SoundFacts.{is-sound as sound-of}
-use Rattle.sound.specs.SoundStand.{storesOf}
+use Rattle.question4.proofs.Question4Passed.{is-sound as sound-of}
+use Rattle.strokes.specs.Lent.{storesOf}
 use borrow.Author.Tests.{not-true, not-false}
 use mathlib.Core.Path.{_≡_, refl, sym, _∙_}
 use borrow.Author.Needs.{needs}

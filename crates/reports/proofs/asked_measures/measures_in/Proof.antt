@@ -1,12 +1,12 @@
-use Rattle.reports.specs.ElementPrices.{endOf}
-use Rattle.strokes.specs.Stored.{rowFractal}
+use Rattle.reports.specs.Code.ElementPrices.{endOf}
+use Rattle.strokes.specs.StateRead.{rowFractal}
 use lib.ListN.{getD}
 use mathlib.Core.List.{[]}
 use Prim.Native.Nat.{ℕ}
 use mathlib.Core.Path.{ap}
 use native.Mathlib.Omega.{arith}
 use mathlib.Core.Path.{sym, _∙_}
-use Rattle.reports.specs.NamedStrokes.{endRow}
+use Rattle.named.specs.Code.NamedRows.{endRow}
 use borrow.Author.Needs.{needs}
 use Rattle.reports.proofs.asked_measures.measures_in.Statement.{statement}
 use Rattle.reports.proofs.asked_measures.measures_in.Tie as tie

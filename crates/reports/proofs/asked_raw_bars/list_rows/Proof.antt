@@ -1,5 +1,5 @@
 use Rattle.reports.proofs.InnerRawLaws.{list-no-times, list-no-ids, list-no-prices, list-room, list-all}
-use Rattle.reports.specs.ElementPrices.{elementsIn}
+use Rattle.reports.specs.Code.ElementPrices.{elementsIn}
 use Rattle.stores.specs.Stores.{rawStore}
 use borrow.Author.Needs.{needs}
 use Rattle.reports.proofs.asked_raw_bars.list_rows.Statement.{statement}

@@ -1,13 +1,12 @@
-use Rattle.reports.proofs.InnerRawLaws.{put-room}
+use Rattle.reports.proofs.InnerRawLaws.{put-room, set-lengths}
 use Prim.Native.Nat.{_≤_, _<_, _-_, _+_, min}
 use mathlib.Core.Path.{_≡_, refl, _∙_}
 use mathlib.Core.List.{foldl}
 use native.Mathlib.Omega.{arith}
 use lib.ListN.{length, take, drop, length-take}
 use Rattle.stores.specs.Stores.{rawStore}
-use Rattle.reports.specs.InnerRawBars.{putNamed, filling}
+use Rattle.reports.specs.Code.InnerRawSteps.{putNamed, filling}
 use Rattle.reports.proofs.MeasureLaws.{element-named, element-turn, element-end}
-use Rattle.reports.proofs.InnerRawLaws.{set-lengths}
 use borrow.Author.Needs.{needs}
 use Rattle.reports.proofs.asked_raw_bars.put_row.Statement.{statement}
 use Rattle.reports.proofs.asked_raw_bars.put_row.Tie as tie

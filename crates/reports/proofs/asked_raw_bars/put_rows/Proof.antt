@@ -1,7 +1,7 @@
 use Rattle.reports.proofs.InnerRawLaws.{row-lengths, row-next, rows-room, rows-next, rows-put}
 use Rattle.reports.proofs.MeasureLaws.{row-named, row-turn, row-end}
-use Rattle.reports.specs.InnerRawBars.{putNamed, filling}
-use Rattle.reports.specs.ElementPrices.{elementsIn}
+use Rattle.reports.specs.Code.InnerRawSteps.{putNamed, filling}
+use Rattle.reports.specs.Code.ElementPrices.{elementsIn}
 use Rattle.stores.specs.Stores.{rawStore, zipWith}
 use Rattle.bars.specs.Lists.{join}
 use lib.ListN.{length, take, drop, getD}

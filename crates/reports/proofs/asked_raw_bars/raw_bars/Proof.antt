@@ -1,7 +1,7 @@
 use mathlib.Core.Path.{sym, _∙_}
 use borrow.Author.Tests.{not-true, not-false}
-use Rattle.sound.specs.SoundStand.{storesOf}
-use Rattle.sound.proofs.SoundFacts.{is-sound as sound-of}
+use Rattle.strokes.specs.Lent.{storesOf}
+use Rattle.question4.proofs.Question4Passed.{is-sound as sound-of}
 use Rattle.stores.specs.Stores.{rawStore}
 use Rattle.reports.proofs.InnerRawLaws.{can-list, bars-unsound, bars-missing, bars-given}
 use Rattle.reports.proofs.StrokeColumns.{rows-small, lends}

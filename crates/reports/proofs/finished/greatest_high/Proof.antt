@@ -5,21 +5,21 @@ use mathlib.Core.List.{map}
 use lib.ListN.{length, take, drop, getD}
 use lib.Ieee.{nan, inf, ofBits, neg, div}
 use Rattle.arith.specs.Order.{maxOf}
-use Rattle.bars.specs.Lists.{foldl}
-use Rattle.reports.specs.Folds.{greatest, least}
+use Rattle.bars.specs.Lists.{foldLeft}
+use Rattle.named.specs.Folds.{greatest, least}
 use Rattle.reports.proofs.ListLaws.{fold-row, fold-rows-end}
 use borrow.Author.Needs.{needs}
 use Rattle.reports.proofs.finished.greatest_high.Statement.{statement}
 use Rattle.reports.proofs.finished.greatest_high.Tie as tie
 
 abbrev Inv-loop : tie.InvT-loop
-Inv-loop up n h₀ i₀ h i = (i ≤ n) × (foldl maxOf h (map (λ p. getD p 2 nan) (drop i (take n up))) ≡ foldl maxOf (inf true) (map (λ p. getD p 2 nan) (take n up)))
+Inv-loop up n h₀ i₀ h i = (i ≤ n) × (foldLeft maxOf h (map (λ p. getD p 2 nan) (drop i (take n up))) ≡ foldLeft maxOf (inf true) (map (λ p. getD p 2 nan) (take n up)))
 
 abbrev μ-loop : tie.MeasureT-loop
 μ-loop up n h₀ i₀ h i = n - i
 
 loop-holds : tie.Need-loop-holds Inv-loop μ-loop
-unfolding ofBits neg div foldl
+unfolding ofBits neg div foldLeft
 loop-holds c = (search needs, refl)
 
 mul-p : tie.Need-mul-p Inv-loop μ-loop

@@ -1,7 +1,7 @@
 use mathlib.Core.Path.{sym, _∙_}
 use borrow.Author.Tests.{not-true, not-false}
 use Rattle.reports.proofs.ListFacts.{extend-no, extend-yes}
-use Rattle.sound.proofs.SoundFacts.{is-sound}
+use Rattle.question4.proofs.Question4Passed.{is-sound}
 use borrow.Author.Needs.{needs}
 use Rattle.reports.proofs.finished.last_bi_extend.Statement.{statement}
 use Rattle.reports.proofs.finished.last_bi_extend.Tie as tie

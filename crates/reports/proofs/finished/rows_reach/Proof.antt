@@ -1,5 +1,5 @@
 use lib.Ieee.{lt}
-use Rattle.reports.specs.ListAnswers.{reaches}
+use Rattle.reports.specs.Code.ListSteps.{reaches}
 use borrow.Author.Needs.{needs}
 use Rattle.reports.proofs.finished.rows_reach.Statement.{statement}
 use Rattle.reports.proofs.finished.rows_reach.Tie as tie

@@ -1,6 +1,6 @@
 use lib.Ieee.{ofBits, neg, div}
-use Rattle.bars.specs.Lists.{foldl}
-use Rattle.reports.specs.Folds.{greatest, least}
+use Rattle.bars.specs.Lists.{foldLeft}
+use Rattle.named.specs.Folds.{greatest, least}
 use Rattle.reports.specs.FractalAnswers.{hasZs}
 use borrow.Author.Needs.{needs}
 use Rattle.reports.proofs.fractal_answers.has_zs.Statement.{statement}
@@ -25,7 +25,7 @@ min-requires-3 : tie.Need-min-requires-3
 min-requires-3 c κs = search needs
 
 returns : tie.Need-returns
-unfolding ofBits neg div hasZs greatest least foldl
+unfolding ofBits neg div hasZs greatest least foldLeft
 returns c = rw (c .before .before .before .max3 .ensures, c .before .before .before .before .max2 .ensures, c .before .before .before .before .before .max .ensures, c .min3 .ensures, c .before .min2 .ensures, c .before .before .min .ensures)
 
 pub has-zs-spec : {M : Type 1} → statement M

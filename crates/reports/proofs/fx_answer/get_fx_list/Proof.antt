@@ -1,14 +1,14 @@
 use Rattle.reports.proofs.FxSame.{can-go, fx-no, fx-yes}
-use Rattle.sound.proofs.SoundFacts.{is-sound}
-use Rattle.sound.specs.SoundStand.{storesOf}
+use Rattle.question4.proofs.Question4Passed.{is-sound}
+use Rattle.strokes.specs.Lent.{storesOf}
 use borrow.Author.Tests.{not-true, not-false}
 use mathlib.Core.Path.{sym, _∙_}
 use borrow.Author.Needs.{needs}
 use Rattle.reports.proofs.fx_answer.get_fx_list.Statement.{statement}
 use Rattle.reports.proofs.fx_answer.get_fx_list.Tie as tie
 
-kept-strokes-requires : tie.Need-kept-strokes-requires
-kept-strokes-requires c κs = search needs
+kept-requires : tie.Need-kept-requires
+kept-requires c κs = search needs
 
 is-sound-requires : tie.Need-is-sound-requires
 is-sound-requires c κs = search needs
@@ -18,7 +18,7 @@ returns c = fx-no _ _ _ (sym (c .before .is-sound .ensures) ∙ not-true _ (c .i
 
 list-all-requires : tie.Need-list-all-requires
 unfolding storesOf
-list-all-requires c κs = let k = c .before .before .before .before .kept-strokes .ensures in can-go _ _ (k .1) (k .2) (is-sound _ _ (sym (c .before .before .before .is-sound .ensures) ∙ not-false _ (c .before .before .if1 .left)))
+list-all-requires c κs = let k = c .before .before .before .before .kept .ensures in can-go _ _ (k .1) (k .2) (is-sound _ _ (sym (c .before .before .before .is-sound .ensures) ∙ not-false _ (c .before .before .if1 .left)))
 
 same-length : tie.Need-same-length
 same-length c = search needs
@@ -28,13 +28,13 @@ same-length-2 c = search needs
 
 returns-2 : tie.Need-returns-2
 unfolding storesOf
-returns-2 c = let k = c .before .before .before .before .before .before .before .kept-strokes .ensures in fx-yes _ _ (k .1) (k .2) (sym (c .before .before .before .before .before .before .is-sound .ensures) ∙ not-false _ (c .before .before .before .before .before .if1 .left)) _ _ _ (c .before .before .list-all .ensures)
+returns-2 c = let k = c .before .before .before .before .before .before .before .kept .ensures in fx-yes _ _ (k .1) (k .2) (sym (c .before .before .before .before .before .before .is-sound .ensures) ∙ not-false _ (c .before .before .before .before .before .if1 .left)) _ _ _ (c .before .before .list-all .ensures)
 
 pub get-fx-list-spec : {M : Type 1} → statement M
 get-fx-list-spec =
     tie.close
     (tie.spec
-    kept-strokes-requires
+    kept-requires
     is-sound-requires
     returns
     list-all-requires

@@ -1,7 +1,7 @@
 use Rattle.reports.proofs.FxPasses.{first-asked, few-stamps, few-prices, second-asked, all-done}
-use Rattle.reports.specs.FxAnswers.{allRows}
+use Rattle.reports.specs.Code.FxRows.{allRows}
 use Rattle.reports.specs.declared.fx_list.Listed.{Listed}
-use Rattle.strokes.specs.Stored.{fractalStore}
+use Rattle.strokes.specs.Lent.{fractalStore}
 use Rattle.stores.specs.Stores.{rawStore}
 use lib.IntN.{pos}
 use mathlib.Core.Path.{refl}

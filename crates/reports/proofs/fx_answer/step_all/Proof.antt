@@ -1,6 +1,6 @@
 use Rattle.reports.proofs.FxPasses.{strokes-asked, fewer-asked, all-front, all-back, all-is}
-use Rattle.reports.specs.FxListing.{listing}
-use Rattle.strokes.specs.Stored.{fractalStore}
+use Rattle.reports.specs.Code.FxListing.{listing}
+use Rattle.strokes.specs.Lent.{fractalStore}
 use Rattle.stores.specs.Stores.{rawStore}
 use borrow.Author.Needs.{needs}
 use Rattle.reports.proofs.fx_answer.step_all.Statement.{statement}

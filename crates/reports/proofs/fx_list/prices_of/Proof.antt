@@ -1,5 +1,5 @@
 use mathlib.Core.Path.{refl}
-use Rattle.strokes.specs.StrokeStore.{pricesOf}
+use Rattle.strokes.specs.FractalRows.{pricesOf}
 use Rattle.bars.specs.Bars.{rowOf}
 use borrow.Author.Needs.{needs}
 use Rattle.reports.proofs.fx_list.prices_of.Statement.{statement}

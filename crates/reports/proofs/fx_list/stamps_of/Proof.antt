@@ -1,7 +1,7 @@
 use mathlib.Core.List.{[], _∷_}
 use mir.Syntax.{w64}
 use mir.ValLaws.{toZ-ofZ}
-use Rattle.strokes.specs.StrokeStore.{stampsOf}
+use Rattle.strokes.specs.FractalRows.{stampsOf}
 use Rattle.strokes.proofs.StoredFractals.{stamp}
 use borrow.Author.Needs.{needs}
 use Rattle.reports.proofs.fx_list.stamps_of.Statement.{statement}

@@ -6,7 +6,7 @@ use mir.ValLaws.{toZ-ofZ}
 use borrow.Author.Tests.{not-true, not-false}
 use Prim.Native.Nat.{_+_}
 use Rattle.reports.specs.FractalList.{isAfter}
-use Rattle.reports.specs.FxListing.{timeListed, listing}
+use Rattle.reports.specs.Code.FxListing.{timeListed, listing}
 use Rattle.reports.proofs.FxLaws.{step-out, step-written, step-counted, step-room}
 use borrow.Author.Needs.{needs}
 use Rattle.reports.proofs.fx_list.step_row.Statement.{statement}

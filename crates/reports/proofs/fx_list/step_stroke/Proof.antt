@@ -3,8 +3,9 @@ use native.Mathlib.Omega.{arith}
 use mathlib.Core.Path.{_≡_, refl, sym, _∙_, subst}
 use mathlib.Core.List.{[]}
 use lib.ListN.{length, take, drop, getD}
-use Rattle.strokes.specs.Stored.{fractalStore, storedFractals}
-use Rattle.reports.specs.FxListing.{Listing, listing, stepAll, CanList}
+use Rattle.strokes.specs.StateRead.{storedFractals}
+use Rattle.strokes.specs.Lent.{fractalStore}
+use Rattle.reports.specs.Code.FxListing.{Listing, listing, stepAll, CanList}
 use Rattle.reports.proofs.FxLaws.{SameSize, size-step, row-asks, row-goes, rows-done}
 use borrow.Author.Needs.{needs}
 use Rattle.reports.proofs.fx_list.step_stroke.Statement.{statement}

@@ -5,9 +5,9 @@ use mathlib.Core.Path.{_≡_, refl, ap, sym, _∙_, subst}
 use mathlib.Core.List.{List, []}
 use lib.ListN.{length, take, drop, getD}
 use lib.Seq.{length-take-le}
-use Rattle.machine.specs.Fractals.{Fractal}
-use Rattle.strokes.specs.Stored.{fractalStore, storedFractals, total}
-use Rattle.reports.specs.FxListing.{Listing, listing, stepAll, CanList, strokeRows}
+use Rattle.strokes.specs.StateRead.{storedFractals, total}
+use Rattle.strokes.specs.Lent.{fractalStore}
+use Rattle.reports.specs.Code.FxListing.{Listing, listing, stepAll, CanList, strokeRows}
 use Rattle.reports.proofs.FxLaws.{SameSize, size-all, stroke-in, stroke-asks, stroke-by, strokes-done}
 use borrow.Author.Needs.{needs}
 use Rattle.reports.proofs.fx_list.step_strokes.Statement.{statement}

@@ -1,5 +1,5 @@
 use Rattle.reports.proofs.FxWindowLaws.{found-asks, found-is, found-none}
-use Rattle.reports.specs.FxListing.{listing}
+use Rattle.reports.specs.Code.FxListing.{listing}
 use borrow.Author.Needs.{needs}
 use Rattle.reports.proofs.fx_windows.step_window.Statement.{statement}
 use Rattle.reports.proofs.fx_windows.step_window.Tie as tie

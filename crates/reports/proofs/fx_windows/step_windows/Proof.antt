@@ -5,10 +5,10 @@ use lib.ListN.{length, drop}
 use Rattle.stores.specs.Stores.{rawStore}
 use Rattle.machine.specs.Fractals.{fxsAfter}
 use Rattle.machine.specs.declared.Mark.the-variants.{D}
-use Rattle.strokes.specs.StrokeStore.{fractalsOf}
+use Rattle.strokes.specs.Code.StrokeSteps.{fractalsBetween}
 use Rattle.strokes.proofs.StoredFractals.{plains}
-use Rattle.reports.specs.FxListing.{Listing, listing, stepAll, CanList}
-use Rattle.reports.specs.FxTurns.{markOf, foundIf}
+use Rattle.reports.specs.Code.FxListing.{Listing, listing, stepAll, CanList}
+use Rattle.reports.specs.Code.FxTurns.{markOf}
 use Rattle.reports.proofs.FxLaws.{SameSize, size-all}
 use Rattle.reports.proofs.FxWindowLaws.{window-asks, window-goes, windows-start, windows-done}
 use borrow.Author.Needs.{needs}
@@ -16,7 +16,7 @@ use Rattle.reports.proofs.fx_windows.step_windows.Statement.{statement}
 use Rattle.reports.proofs.fx_windows.step_windows.Tie as tie
 
 abbrev Inv-loop : tie.InvT-loop
-Inv-loop os₀ op₀ write ut ui up end w₀ r₀ i₀ os op w r i = (i ≤ end) × (length os ≡ length os₀) × (length op ≡ length op₀) × (stepAll write (listing os op r) (fxsAfter (markOf w) (drop i (plains (rawStore ut ui up) end))) ≡ stepAll write (listing os₀ op₀ r₀) (fractalsOf (rawStore ut ui up) 0 end)) × CanList write (listing os op r) (fxsAfter (markOf w) (drop i (plains (rawStore ut ui up) end)))
+Inv-loop os₀ op₀ write ut ui up end w₀ r₀ i₀ os op w r i = (i ≤ end) × (length os ≡ length os₀) × (length op ≡ length op₀) × (stepAll write (listing os op r) (fxsAfter (markOf w) (drop i (plains (rawStore ut ui up) end))) ≡ stepAll write (listing os₀ op₀ r₀) (fractalsBetween (rawStore ut ui up) 0 end)) × CanList write (listing os op r) (fxsAfter (markOf w) (drop i (plains (rawStore ut ui up) end)))
 
 abbrev μ-loop : tie.MeasureT-loop
 μ-loop os₀ op₀ write ut ui up end w₀ r₀ i₀ os op w r i = end - i

@@ -1,4 +1,4 @@
-use Rattle.reports.specs.FxTurns.{turnIf}
+use Rattle.reports.specs.Code.FxTurns.{turnIf}
 use mathlib.Core.Bool.{Bool}
 use mathlib.Core.Path.{ap, sym, _∙_}
 use borrow.Author.Needs.{needs}

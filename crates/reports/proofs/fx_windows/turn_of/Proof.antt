@@ -1,6 +1,5 @@
-use Rattle.reports.specs.FxTurns.{turn, turnBy, turnIf}
+use Rattle.reports.specs.Code.FxTurns.{turn, turnBy, turnIf}
 use Rattle.strokes.proofs.StoredFractals.{top-read, bottom-read}
-use Rattle.machine.specs.Fractals.{isTop, isBottom}
 use mathlib.Core.Path.{_≡_, refl}
 use borrow.Author.Needs.{needs}
 use Rattle.reports.proofs.fx_windows.turn_of.Statement.{statement}

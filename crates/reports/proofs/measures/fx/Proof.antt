@@ -1,6 +1,4 @@
 use mathlib.Core.Path.{_∙_, ap}
-use Rattle.machine.specs.declared.Mark.{Mark}
-use Rattle.reports.specs.declared.measures.StrokeEnd.{StrokeEnd}
 use Rattle.reports.proofs.MeasureLaws.{fx-bottom, fx-top}
 use borrow.Author.Needs.{needs}
 use Rattle.reports.proofs.measures.fx.Statement.{statement}

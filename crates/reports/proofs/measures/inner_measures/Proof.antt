@@ -3,16 +3,12 @@ use mathlib.Core.List.{foldl}
 use lib.ListN.{take}
 use lib.Ieee.{Float}
 use Rattle.arith.specs.Rounding.{roundTo}
-use Rattle.arith.specs.Sums.{meanStart, fitStart, snrStart}
-use Rattle.arith.specs.declared.sums.MeanSums.{MeanSums}
-use Rattle.arith.specs.declared.sums.FitSums.{FitSums}
-use Rattle.arith.specs.declared.sums.SnrSums.{SnrSums}
 use Rattle.arith.specs.declared.sums.SlopeSums.{SlopeSums}
 use Rattle.bars.specs.Lists.{join}
 use Rattle.stores.specs.Stores.{zipWith}
 use Rattle.reports.specs.declared.measures.InnerSums.{InnerSums}
 use Rattle.reports.specs.Measures.{powerSnr}
-use Rattle.reports.specs.ElementPrices.{meanAt, fitAt, snrAt, slopeAt}
+use Rattle.reports.specs.Code.ElementPrices.{meanAt, fitAt, snrAt, slopeAt}
 use Rattle.reports.proofs.MeasureLaws.{snr-read, slope-read, acceleration-read}
 use borrow.Author.Needs.{needs}
 use Rattle.reports.proofs.measures.inner_measures.Statement.{statement}

@@ -3,8 +3,8 @@ use mathlib.Core.Path.{_≡_, refl, ap, _∙_}
 use mathlib.Core.List.{List, foldl}
 use lib.ListN.{length, take, drop, getD}
 use lib.Ieee.{Float, nan}
-use Rattle.arith.specs.Sums.{slopeMore}
-use Rattle.reports.specs.ElementPrices.{slopeAt}
+use Rattle.arith.specs.Code.Accumulators.{slopeMore}
+use Rattle.reports.specs.Code.ElementPrices.{slopeAt}
 use Rattle.reports.proofs.MeasureLaws.{element-named, element-turn, element-end}
 use borrow.Author.Needs.{needs}
 use Rattle.reports.proofs.measures.slope_row.Statement.{statement}

@@ -4,7 +4,7 @@ use mathlib.Core.List.{foldl}
 use lib.ListN.{length, take, drop}
 use Rattle.bars.specs.Lists.{join}
 use Rattle.stores.specs.Stores.{zipWith}
-use Rattle.reports.specs.ElementPrices.{slopeAt}
+use Rattle.reports.specs.Code.ElementPrices.{slopeAt}
 use Rattle.reports.proofs.MeasureLaws.{row-named, row-turn, row-end}
 use borrow.Author.Needs.{needs}
 use Rattle.reports.proofs.measures.slope_rows.Statement.{statement}

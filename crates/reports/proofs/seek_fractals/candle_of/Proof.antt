@@ -1,5 +1,5 @@
-use Rattle.check_bi.specs.Scan.{candleOf}
-use Rattle.strokes.specs.StrokeStore.{plainBar}
+use Rattle.check_bi.specs.Code.Scan.{candleOf}
+use Rattle.strokes.specs.Code.StrokeSteps.{plainBar}
 use borrow.Author.Needs.{needs}
 use Rattle.reports.proofs.seek_fractals.candle_of.Statement.{statement}
 use Rattle.reports.proofs.seek_fractals.candle_of.Tie as tie

@@ -1,6 +1,6 @@
-use Rattle.reports.specs.Reports.{nth}
+use Rattle.named.specs.ReportQuestions.{nth}
 use Rattle.reports.specs.FractalAnswers.{answersOf}
-use Rattle.strokes.specs.StrokeStore.{fractalsOf}
+use Rattle.strokes.specs.Code.StrokeSteps.{fractalsBetween}
 use Rattle.stores.specs.Stores.{rawStore}
 use mathlib.Core.Option.{Option·map}
 use Prim.Native.Nat.{_≤_, _-_}
@@ -11,7 +11,7 @@ use Rattle.reports.proofs.seek_fractals.seek.Statement.{statement}
 use Rattle.reports.proofs.seek_fractals.seek.Tie as tie
 
 abbrev Inv-loop : tie.InvT-loop
-Inv-loop ut ui up n place k₀ i₀ k i = (i ≤ n) × (meant k (rest (rawStore ut ui up) n i) ≡ Option·map answersOf (nth (fractalsOf (rawStore ut ui up) 0 n) place))
+Inv-loop ut ui up n place k₀ i₀ k i = (i ≤ n) × (meant k (rest (rawStore ut ui up) n i) ≡ Option·map answersOf (nth (fractalsBetween (rawStore ut ui up) 0 n) place))
 
 abbrev μ-loop : tie.MeasureT-loop
 μ-loop ut ui up n place k₀ i₀ k i = n - i

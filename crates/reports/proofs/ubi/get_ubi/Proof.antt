@@ -1,7 +1,7 @@
 use mathlib.Core.Path.{sym, _∙_}
 use borrow.Author.Tests.{not-true, not-false}
 use Rattle.reports.proofs.UbiFacts.{ubi-no, ubi-yes}
-use Rattle.sound.proofs.SoundFacts.{is-sound}
+use Rattle.question4.proofs.Question4Passed.{is-sound}
 use borrow.Author.Needs.{needs}
 use Rattle.reports.proofs.ubi.get_ubi.Statement.{statement}
 use Rattle.reports.proofs.ubi.get_ubi.Tie as tie

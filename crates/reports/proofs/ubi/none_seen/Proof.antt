@@ -1,4 +1,4 @@
-use Rattle.reports.specs.UbiAnswers.{noneSeen}
+use Rattle.reports.specs.Code.UbiSteps.{noneSeen}
 use borrow.Author.Needs.{needs}
 use Rattle.reports.proofs.ubi.none_seen.Statement.{statement}
 use Rattle.reports.proofs.ubi.none_seen.Tie as tie

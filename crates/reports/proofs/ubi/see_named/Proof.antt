@@ -6,7 +6,8 @@ use lib.Signed.{ltZ}
 use mir.Syntax.{w64}
 use mir.Val.{toZ, ofZ}
 use mir.ValLaws.{toZ-ofZ}
-use Rattle.stores.specs.Stores.{rawStore, rawBars, placeOf}
+use Rattle.stores.specs.Stores.{rawStore, rawBars}
+use Rattle.stores.specs.Code.StoreRows.{placeOf}
 use Rattle.strokes.proofs.StoredAgain.{none-past, none-there, one-there, keeping}
 use Rattle.reports.proofs.UbiLaws.{rises, named-none, named-one}
 use borrow.Author.Needs.{needs}

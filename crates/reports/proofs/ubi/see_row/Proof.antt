@@ -6,7 +6,7 @@ use lib.IntN.{ℤ, pos}
 use mir.Syntax.{w64}
 use mir.ValLaws.{toZ-ofZ}
 use Rattle.stores.specs.Stores.{rawStore, rawBars}
-use Rattle.reports.specs.UbiAnswers.{seeAt}
+use Rattle.reports.specs.Code.UbiSteps.{seeAt}
 use Rattle.reports.proofs.MeasureLaws.{element-turn, element-end}
 use borrow.Author.Needs.{needs}
 use Rattle.reports.proofs.ubi.see_row.Statement.{statement}

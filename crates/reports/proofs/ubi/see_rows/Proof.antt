@@ -5,7 +5,7 @@ use mathlib.Core.List.{foldl}
 use lib.ListN.{length, take, drop}
 use Rattle.bars.specs.Lists.{join}
 use Rattle.stores.specs.Stores.{rawStore, rawBars, zipWith}
-use Rattle.reports.specs.UbiAnswers.{seeAt}
+use Rattle.reports.specs.Code.UbiSteps.{seeAt}
 use Rattle.reports.proofs.MeasureLaws.{row-turn, row-end}
 use borrow.Author.Needs.{needs}
 use Rattle.reports.proofs.ubi.see_rows.Statement.{statement}

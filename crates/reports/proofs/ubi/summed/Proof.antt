@@ -1,5 +1,5 @@
 use mathlib.Core.Path.{refl}
-use Rattle.reports.specs.UbiAnswers.{ubiOf}
+use Rattle.reports.specs.Code.UbiSteps.{ubiOf}
 use borrow.Author.Needs.{needs}
 use Rattle.reports.proofs.ubi.summed.Statement.{statement}
 use Rattle.reports.proofs.ubi.summed.Tie as tie

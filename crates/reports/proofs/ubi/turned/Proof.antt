@@ -1,4 +1,4 @@
-use Rattle.reports.specs.Unfinished.{turned}
+use Rattle.machine.specs.Strokes.{turned}
 use borrow.Author.Needs.{needs}
 use Rattle.reports.proofs.ubi.turned.Statement.{statement}
 use Rattle.reports.proofs.ubi.turned.Tie as tie

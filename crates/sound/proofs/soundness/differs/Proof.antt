@@ -1,4 +1,4 @@
-use Rattle.sound.specs.SoundStand.{differ}
+use Rattle.sound.specs.Code.SoundStand.{differ}
 use borrow.Author.Needs.{needs}
 use Rattle.sound.proofs.soundness.differs.Statement.{statement}
 use Rattle.sound.proofs.soundness.differs.Tie as tie

@@ -6,7 +6,7 @@ use lib.ListN.{length, take, drop, getD}
 use lib.IntN.{pos}
 use Rattle.bars.specs.Lists.{every}
 use Rattle.stores.proofs.Searching.{place-le}
-use Rattle.sound.specs.SoundStand.{isTime}
+use Rattle.sound.specs.Code.SoundStand.{isTime}
 use Rattle.sound.proofs.SoundNames.{row-turn, row-end}
 use borrow.Author.Needs.{needs}
 use Rattle.sound.proofs.soundness.each_named.Statement.{statement}

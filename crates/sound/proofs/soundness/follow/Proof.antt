@@ -3,7 +3,7 @@ use mathlib.Core.Bool.{true}
 use lib.ListN.{take}
 use lib.Dec.{T}
 use Rattle.bars.specs.Lists.{every}
-use Rattle.sound.specs.SoundStand.{isTime}
+use Rattle.sound.specs.Code.SoundStand.{isTime}
 use Rattle.sound.proofs.SoundNames.{follow-start, follow-turn, follow-end}
 use borrow.Author.Needs.{needs}
 use Rattle.sound.proofs.soundness.follow.Statement.{statement}

@@ -1,4 +1,4 @@
-use Rattle.strokes.specs.Stored.{fractalSized}
+use Rattle.strokes.specs.StateRead.{fractalSized}
 use borrow.Author.Needs.{needs}
 use Rattle.sound.proofs.soundness.fractal_sized.Statement.{statement}
 use Rattle.sound.proofs.soundness.fractal_sized.Tie as tie

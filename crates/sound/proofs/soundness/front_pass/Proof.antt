@@ -1,5 +1,5 @@
 use Rattle.sound.proofs.SoundStrokes.{cut-count, cut-lengths, cut-small, raw-rising}
-use Rattle.sound.specs.SoundStand.{frontColumns}
+use Rattle.sound.specs.Code.SoundStand.{frontColumns}
 use mathlib.Core.Path.{_∙_, sym}
 use borrow.Author.Tests.{not-true, not-false}
 use borrow.Author.Needs.{needs}

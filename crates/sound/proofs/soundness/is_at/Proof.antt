@@ -1,4 +1,4 @@
-use Rattle.sound.specs.SoundStand.{atPlace}
+use Rattle.sound.specs.Code.SoundStand.{atPlace}
 use borrow.Author.Tests.{lt-ltb, le-ltb}
 use lib.ListN.{length}
 use borrow.Author.Needs.{needs}

@@ -1,4 +1,4 @@
-use Rattle.sound.specs.SoundStand.{inTime}
+use Rattle.sound.specs.Code.SoundStand.{inTime}
 use Rattle.bars.specs.Questions.{firstTime, lastTime}
 use mir.ValLaws.{toZ-ofZ}
 use mir.Syntax.{w64}

@@ -1,4 +1,4 @@
-use Rattle.sound.specs.SoundStand.{isReal}
+use Rattle.sound.specs.Code.SoundStand.{isReal}
 use borrow.Author.Needs.{needs}
 use Rattle.sound.proofs.soundness.is_real.Statement.{statement}
 use Rattle.sound.proofs.soundness.is_real.Tie as tie

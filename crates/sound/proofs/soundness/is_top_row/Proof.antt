@@ -1,4 +1,4 @@
-use Rattle.sound.specs.SoundStand.{topRow}
+use Rattle.sound.specs.Code.SoundStand.{topRow}
 use mathlib.Core.Bool.{_&&_}
 use mathlib.Core.Path.{_∙_}
 use borrow.Author.Needs.{needs}

@@ -3,7 +3,7 @@ use mathlib.Core.Path.{_≡_, refl}
 use mathlib.Core.Bool.{_&&_}
 use mathlib.Core.List.{map}
 use Prim.Native.Nat.{_-_, _≤_}
-use Rattle.sound.specs.SoundStand.{alternating, topRow}
+use Rattle.sound.specs.Code.SoundStand.{alternating, topRow}
 use Rattle.sound.proofs.SoundScans.{alternating-few, alternating-turn, alternating-end}
 use borrow.Author.Needs.{needs}
 use Rattle.sound.proofs.soundness.marks_alternate.Statement.{statement}

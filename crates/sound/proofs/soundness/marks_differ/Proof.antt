@@ -1,4 +1,4 @@
-use Rattle.sound.specs.SoundStand.{differ}
+use Rattle.sound.specs.Code.SoundStand.{differ}
 use mathlib.Core.Path.{_∙_}
 use borrow.Author.Needs.{needs}
 use Rattle.sound.proofs.soundness.marks_differ.Statement.{statement}

@@ -1,4 +1,4 @@
-use Rattle.strokes.specs.Stored.{rawSized, mergedSized}
+use Rattle.strokes.specs.StateRead.{rawSized, mergedSized}
 use mathlib.Core.Bool.{_&&_}
 use mathlib.Core.Path.{_∙_}
 use borrow.Author.Needs.{needs}

@@ -3,9 +3,9 @@ use mathlib.Core.Path.{_≡_, refl}
 use mathlib.Core.Bool.{_&&_}
 use mathlib.Core.List.{map}
 use Prim.Native.Nat.{_-_, _≤_}
-use Rattle.stores.specs.Stores.{rising}
+use Rattle.stores.specs.Code.StoreRows.{rising}
 use Rattle.machine.specs.Soundness.{rises}
-use Rattle.sound.specs.SoundStand.{middleTimes}
+use Rattle.sound.specs.Code.SoundStand.{middleTimes}
 use Rattle.sound.proofs.SoundScans.{rises-is, middle-few, middle-turn, middle-end}
 use borrow.Author.Needs.{needs}
 use Rattle.sound.proofs.soundness.middles_rise.Statement.{statement}

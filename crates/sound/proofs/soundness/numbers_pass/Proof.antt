@@ -1,6 +1,6 @@
-use Rattle.sound.proofs.SoundScans.{and-false}
-use Rattle.sound.specs.SoundStand.{numbersPass}
-use Rattle.strokes.specs.Stored.{settingsOf, countsSized, barCounts}
+use Rattle.arith.proofs.Tests.{and-false}
+use Rattle.sound.specs.Code.SoundStand.{numbersPass}
+use Rattle.strokes.specs.StateRead.{settingsOf, countsSized, barCounts}
 use Rattle.sound.specs.FreshStand.{roomsFit}
 use Rattle.machine.specs.Soundness.{settingsSound, roomsPass, settingsPass}
 use borrow.Author.Tests.{lt-leb, le-leb}

@@ -1,4 +1,4 @@
-use Rattle.sound.specs.SoundStand.{rawColumns}
+use Rattle.sound.specs.Code.SoundStand.{rawColumns}
 use mathlib.Core.Path.{_∙_, sym}
 use borrow.Author.Tests.{not-true, not-false}
 use borrow.Author.Needs.{needs}

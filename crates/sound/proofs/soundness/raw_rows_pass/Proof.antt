@@ -4,7 +4,7 @@ use mathlib.Core.Bool.{_&&_}
 use Prim.Native.Nat.{_-_, _≤_}
 use Rattle.bars.specs.Lists.{every}
 use Rattle.sound.proofs.SoundScans.{every-turn, every-end}
-use Rattle.sound.specs.SoundStand.{rawRow}
+use Rattle.sound.specs.Code.SoundStand.{rawRow}
 use mathlib.Core.List.{[]}
 use borrow.Author.Needs.{needs}
 use Rattle.sound.proofs.soundness.raw_rows_pass.Statement.{statement}

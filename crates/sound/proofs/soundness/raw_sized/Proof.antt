@@ -1,4 +1,4 @@
-use Rattle.strokes.specs.Stored.{rawSized}
+use Rattle.strokes.specs.StateRead.{rawSized}
 use mathlib.Core.Bool.{_&&_}
 use mathlib.Core.Path.{_∙_}
 use borrow.Author.Needs.{needs}

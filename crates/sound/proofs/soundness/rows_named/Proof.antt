@@ -2,7 +2,7 @@ use Prim.Native.Nat.{_≤_, _-_}
 use mathlib.Core.Path.{_≡_, refl}
 use mathlib.Core.Bool.{_&&_}
 use lib.ListN.{length, drop}
-use Rattle.sound.specs.SoundStand.{namedRows}
+use Rattle.sound.specs.Code.SoundStand.{namedRows}
 use Rattle.sound.proofs.SoundNames.{rows-turn, rows-end}
 use borrow.Author.Needs.{needs}
 use Rattle.sound.proofs.soundness.rows_named.Statement.{statement}

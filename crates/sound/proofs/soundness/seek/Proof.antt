@@ -1,5 +1,4 @@
 use Rattle.sound.proofs.SoundNames.{at-place}
-use Rattle.stores.specs.Stores.{placeOf}
 use mir.ValLaws.{toZ-ofZ}
 use mir.Syntax.{w64}
 use lib.IntN.{ℤ, pos}

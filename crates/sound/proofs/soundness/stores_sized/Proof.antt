@@ -1,5 +1,5 @@
-use Rattle.sound.specs.SoundStand.{storesOf}
-use Rattle.strokes.specs.Stored.{storesSized}
+use Rattle.strokes.specs.Lent.{storesOf}
+use Rattle.strokes.specs.StateRead.{storesSized}
 use borrow.Author.Needs.{needs}
 use Rattle.sound.proofs.soundness.stores_sized.Statement.{statement}
 use Rattle.sound.proofs.soundness.stores_sized.Tie as tie

@@ -1,5 +1,5 @@
 use Rattle.sound.proofs.SoundStrokes.{part-lengths}
-use Rattle.sound.specs.SoundStand.{strokeColumns}
+use Rattle.sound.specs.Code.SoundStand.{strokeColumns}
 use native.Mathlib.Omega.{arith}
 use Prim.Native.Nat.{_-_}
 use lib.ListN.{length}

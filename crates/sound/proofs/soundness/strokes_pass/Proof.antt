@@ -3,8 +3,8 @@ use native.Mathlib.Omega.{arith}
 use mathlib.Core.Path.{_≡_, refl, sym, _∙_}
 use lib.ListN.{length, take, drop, getD}
 use borrow.Author.Tests.{not-true, not-false}
-use Rattle.strokes.specs.Stored.{total}
-use Rattle.sound.specs.SoundStand.{strokesColumns}
+use Rattle.strokes.specs.StateRead.{total}
+use Rattle.sound.specs.Code.SoundStand.{strokesColumns}
 use Rattle.sound.proofs.SoundStrokes.{part-lengths, room-at, room-next, fractals-fit, strokes-end, strokes-few, strokes-stop, strokes-turn}
 use borrow.Author.Needs.{needs}
 use Rattle.sound.proofs.soundness.strokes_pass.Statement.{statement}

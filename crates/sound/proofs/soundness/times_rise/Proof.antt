@@ -2,7 +2,7 @@ use lib.ListN.{length, drop}
 use mathlib.Core.Path.{_≡_}
 use mathlib.Core.Bool.{_&&_}
 use Prim.Native.Nat.{_-_, _≤_}
-use Rattle.stores.specs.Stores.{rising}
+use Rattle.stores.specs.Code.StoreRows.{rising}
 use Rattle.machine.specs.Soundness.{rises}
 use Rattle.sound.proofs.SoundScans.{rises-is, rise-few, rise-turn, rise-end}
 use borrow.Author.Needs.{needs}

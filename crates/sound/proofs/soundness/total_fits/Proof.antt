@@ -2,7 +2,7 @@ use Prim.Native.Nat.{_≤_, _-_}
 use mathlib.Core.Path.{_≡_, refl}
 use lib.ListN.{length, take, drop}
 use lib.Dec.{leb}
-use Rattle.strokes.specs.Stored.{total}
+use Rattle.strokes.specs.StateRead.{total}
 use Rattle.sound.proofs.SoundNames.{total-turn, total-stop, total-end}
 use borrow.Author.Needs.{needs}
 use Rattle.sound.proofs.soundness.total_fits.Statement.{statement}

@@ -1,5 +1,5 @@
 use Rattle.sound.proofs.SoundStrokes.{rest-lengths, rest-all}
-use Rattle.sound.specs.SoundStand.{unfinishedColumns, skipped}
+use Rattle.sound.specs.Code.SoundStand.{unfinishedColumns, skipped}
 use lib.ListN.{length}
 use mathlib.Core.Path.{_∙_, sym}
 use borrow.Author.Tests.{not-true, not-false, le-leb, lt-leb}

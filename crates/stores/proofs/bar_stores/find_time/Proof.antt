@@ -8,7 +8,7 @@ use lib.Seq.{length-take-le}
 use mir.Syntax.{w64}
 use mir.Val.{toZ, ofZ}
 use mir.ValLaws.{toZ-ofZ}
-use Rattle.stores.specs.Stores.{placeOf}
+use Rattle.stores.specs.Code.StoreRows.{placeOf}
 use Rattle.stores.proofs.Searching.{place-le, place-past-in, place-upto-in}
 use Rattle.stores.proofs.bar_stores.find_time.Statement.{statement}
 use Rattle.stores.proofs.bar_stores.find_time.Tie as tie

@@ -1,4 +1,4 @@
-use Rattle.stores.specs.Stores.{copiedRaw}
+use Rattle.stores.specs.Code.StoreRows.{copiedRaw}
 use Rattle.stores.proofs.bar_stores.join_bars.Statement.{statement}
 use Rattle.stores.proofs.bar_stores.join_bars.Tie as tie
 

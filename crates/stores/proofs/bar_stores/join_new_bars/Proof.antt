@@ -1,4 +1,4 @@
-use Rattle.stores.specs.Stores.{copiedMerged}
+use Rattle.stores.specs.Code.StoreRows.{copiedMerged}
 use Rattle.stores.proofs.Columns.{put-together}
 use Rattle.stores.proofs.bar_stores.join_new_bars.Statement.{statement}
 use Rattle.stores.proofs.bar_stores.join_new_bars.Tie as tie

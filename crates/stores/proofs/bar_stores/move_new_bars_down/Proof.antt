@@ -1,4 +1,4 @@
-use Rattle.stores.specs.Stores.{copiedMerged}
+use Rattle.stores.specs.Code.StoreRows.{copiedMerged}
 use Rattle.stores.proofs.Columns.{put-together}
 use Rattle.stores.proofs.bar_stores.move_new_bars_down.Statement.{statement}
 use Rattle.stores.proofs.bar_stores.move_new_bars_down.Tie as tie

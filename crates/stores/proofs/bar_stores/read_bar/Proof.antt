@@ -1,5 +1,6 @@
 use borrow.Author.Needs.{needs}
-use Rattle.stores.specs.Stores.{barAt, barOf}
+use Rattle.stores.specs.Stores.{barOf}
+use Rattle.stores.specs.Code.StoreRows.{barAt}
 use Rattle.stores.proofs.bar_stores.read_bar.Statement.{statement}
 use Rattle.stores.proofs.bar_stores.read_bar.Tie as tie
 

@@ -1,5 +1,5 @@
 use borrow.Author.Needs.{needs}
-use Rattle.stores.specs.Stores.{newBarAt}
+use Rattle.stores.specs.Code.StoreRows.{newBarAt}
 use Rattle.stores.proofs.bar_stores.read_new_bar.Statement.{statement}
 use Rattle.stores.proofs.bar_stores.read_new_bar.Tie as tie
 

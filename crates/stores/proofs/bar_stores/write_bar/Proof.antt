@@ -1,6 +1,6 @@
 use borrow.Author.Needs.{needs}
 use Rattle.bars.specs.Bars.{rowOf}
-use Rattle.stores.specs.Stores.{setBar}
+use Rattle.stores.specs.Code.StoreRows.{setBar}
 use Rattle.stores.proofs.bar_stores.write_bar.Statement.{statement}
 use Rattle.stores.proofs.bar_stores.write_bar.Tie as tie
 

@@ -1,6 +1,6 @@
 use borrow.Author.Needs.{needs}
 use mathlib.Core.Path.{refl}
-use Rattle.stores.specs.Stores.{setNewBar}
+use Rattle.stores.specs.Code.StoreRows.{setNewBar}
 use Rattle.stores.proofs.Columns.{put-together}
 use Rattle.stores.proofs.bar_stores.write_new_bar.Statement.{statement}
 use Rattle.stores.proofs.bar_stores.write_new_bar.Tie as tie

@@ -3,7 +3,7 @@ use Prim.Native.Nat.{_≤_, _-_}
 use mathlib.Core.Path.{_≡_, refl}
 use lib.ListN.{length, set}
 use Rattle.bars.specs.Lists.{copied}
-use Rattle.stores.specs.Stores.{inUse}
+use Rattle.stores.specs.Code.StoreRows.{inUse}
 use Rattle.bars.proofs.Moves.{copied-none, copied-end}
 use Rattle.stores.proofs.InUse.{start-turn, in-use-turn}
 use Rattle.stores.proofs.rows.down_in_use.Statement.{statement}

@@ -1,6 +1,7 @@
-use Rattle.stores.specs.Stores.{barAt, barOf}
+use Rattle.stores.specs.Stores.{barOf}
+use Rattle.stores.specs.Code.StoreRows.{barAt}
 use Rattle.stores.proofs.TailMerging.{tail-first, tail-alone, tail-behind, tail-within}
-use Rattle.bars.specs.MergedBars.{behind}
+use Rattle.bars.specs.Code.MergedBars.{behind}
 use Rattle.stores.specs.Stores.{RawStore, rawStore, rawBars}
 use lib.ListN.{take, length}
 use mathlib.Core.List.{_++_}

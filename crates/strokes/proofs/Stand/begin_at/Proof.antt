@@ -1,7 +1,7 @@
 use borrow.Author.Needs.{needs}
 use mathlib.Core.Path.{refl}
 use Rattle.stores.specs.Stores.{mergedStore}
-use Rattle.strokes.specs.StoreSteps.{withUnfinished}
+use Rattle.strokes.specs.Code.BarSteps.{withUnfinished}
 use Rattle.strokes.proofs.StoredUnfinished.{begun-at}
 use Rattle.strokes.proofs.StoredCounts.{stay-begun}
 use Rattle.strokes.proofs.Stand.begin_at.Statement.{statement}

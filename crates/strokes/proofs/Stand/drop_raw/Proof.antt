@@ -6,8 +6,9 @@ use lib.IntN.{ℤ}
 use mir.Syntax.{w64}
 use mir.Val.{toZ, ofZ}
 use mir.ValLaws.{toZ-ofZ}
-use Rattle.stores.specs.Stores.{rawStore, placeOf}
-use Rattle.strokes.specs.StoreSteps.{withRaw}
+use Rattle.stores.specs.Stores.{rawStore}
+use Rattle.stores.specs.Code.StoreRows.{placeOf}
+use Rattle.strokes.specs.Code.BarSteps.{withRaw}
 use Rattle.strokes.proofs.StoredRaw.{place-in, early-dropped, none-dropped}
 use Rattle.strokes.proofs.Stand.drop_raw.Statement.{statement}
 use Rattle.strokes.proofs.Stand.drop_raw.Tie as tie

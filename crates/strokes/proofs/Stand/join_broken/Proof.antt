@@ -6,8 +6,9 @@ use lib.ListN.{take, getD}
 use lib.IntN.{ℤ, pos}
 use mir.Syntax.{w64}
 use mir.ValLaws.{toZ-ofZ}
-use Rattle.stores.specs.Stores.{MergedStore, mergedStore, copiedMerged, placeOf}
-use Rattle.strokes.specs.StoreSteps.{withUnfinished, withoutLast}
+use Rattle.stores.specs.Stores.{MergedStore, mergedStore}
+use Rattle.stores.specs.Code.StoreRows.{copiedMerged, placeOf}
+use Rattle.strokes.specs.Code.BarSteps.{withUnfinished, withoutLast}
 use Rattle.strokes.proofs.StoredUnfinished.{room-of, join-place, join-room, join-after, was-joined}
 use Rattle.strokes.proofs.StoredCounts.{stay-joined}
 use Rattle.strokes.proofs.Stand.join_broken.Statement.{statement}

@@ -10,9 +10,10 @@ use mir.Syntax.{w64}
 use mir.ValLaws.{toZ-ofZ}
 use Rattle.bars.specs.declared.NewBar.{NewBar}
 use Rattle.bars.specs.Merging.{mergeAll, atTimes}
-use Rattle.stores.specs.Stores.{rawStore, mergedStore, newBarAt}
-use Rattle.strokes.specs.StoreSteps.{keptRaw, keptUnfinished, withUnfinished}
-use Rattle.strokes.specs.ElementCounts.{StaySized}
+use Rattle.stores.specs.Stores.{rawStore, mergedStore}
+use Rattle.stores.specs.Code.StoreRows.{newBarAt}
+use Rattle.strokes.specs.Code.BarSteps.{keptRaw, keptUnfinished, withUnfinished}
+use Rattle.strokes.specs.Code.ElementCounts.{StaySized}
 use Rattle.strokes.proofs.StoredUnfinished.{room-of}
 use Rattle.strokes.proofs.StoredAgain.{Going, going-first, going-sized, going-rising, going-fits, going-turn, last-fits, going-done, again-count, again-is, again-room}
 use Rattle.strokes.proofs.StoredCounts.{stay-fewer}

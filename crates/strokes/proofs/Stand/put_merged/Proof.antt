@@ -3,7 +3,7 @@ use native.Mathlib.Omega.{arith}
 use mathlib.Core.Path.{refl, ap}
 use Rattle.bars.specs.declared.Bar.{Bar}
 use Rattle.stores.specs.Stores.{mergedStore}
-use Rattle.strokes.specs.StoreSteps.{withUnfinished}
+use Rattle.strokes.specs.Code.BarSteps.{withUnfinished}
 use Rattle.strokes.proofs.StoredUnfinished.{room-of, few-room, own-put, merged-put, apart-room, apart-put}
 use Rattle.strokes.proofs.StoredCounts.{stay-put, stay-last}
 use Rattle.strokes.proofs.Stand.put_merged.Statement.{statement}

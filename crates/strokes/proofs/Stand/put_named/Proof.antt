@@ -8,8 +8,9 @@ use mir.Syntax.{w64}
 use mir.Val.{toZ, ofZ}
 use mir.ValLaws.{toZ-ofZ}
 use Rattle.bars.specs.Merging.{atTimes}
-use Rattle.stores.specs.Stores.{rawStore, mergedStore, placeOf}
-use Rattle.strokes.specs.StoreSteps.{keptRaw}
+use Rattle.stores.specs.Stores.{rawStore, mergedStore}
+use Rattle.stores.specs.Code.StoreRows.{placeOf}
+use Rattle.strokes.specs.Code.BarSteps.{keptRaw}
 use Rattle.strokes.proofs.StoredAgain.{none-past, none-there, one-there, none-named, one-fits, one-named}
 use Rattle.strokes.proofs.Stand.put_named.Statement.{statement}
 use Rattle.strokes.proofs.Stand.put_named.Tie as tie

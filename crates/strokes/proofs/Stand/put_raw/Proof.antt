@@ -2,7 +2,7 @@ use borrow.Author.Needs.{needs}
 use native.Mathlib.Omega.{arith}
 use mathlib.Core.Path.{refl}
 use Rattle.stores.specs.Stores.{rawStore}
-use Rattle.strokes.specs.StoreSteps.{withRaw}
+use Rattle.strokes.specs.Code.BarSteps.{withRaw}
 use Rattle.strokes.proofs.StoredRaw.{later-put, last-replaced}
 use Rattle.strokes.proofs.Stand.put_raw.Statement.{statement}
 use Rattle.strokes.proofs.Stand.put_raw.Tie as tie

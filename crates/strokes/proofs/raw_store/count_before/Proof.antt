@@ -8,7 +8,7 @@ use lib.IntN.{ℤ, pos}
 use mir.Syntax.{w64}
 use mir.Val.{toZ, ofZ}
 use mir.ValLaws.{toZ-ofZ}
-use Rattle.stores.specs.Stores.{placeOf}
+use Rattle.stores.specs.Code.StoreRows.{placeOf}
 use Rattle.strokes.proofs.StoredRaw.{count-turn, count-here, count-end}
 use Rattle.strokes.proofs.raw_store.count_before.Statement.{statement}
 use Rattle.strokes.proofs.raw_store.count_before.Tie as tie

@@ -1,5 +1,5 @@
-use Rattle.strokes.specs.StrokeStore.{plainBar}
-use Rattle.check_bi.specs.Scan.{candleOf}
+use Rattle.strokes.specs.Code.StrokeSteps.{plainBar}
+use Rattle.check_bi.specs.Code.Scan.{candleOf}
 use borrow.Author.Needs.{needs}
 use Rattle.strokes.proofs.strokes_store.candle_of.Statement.{statement}
 use Rattle.strokes.proofs.strokes_store.candle_of.Tie as tie

@@ -1,5 +1,5 @@
 use Rattle.strokes.proofs.StoredFractals.{last-some}
-use Rattle.strokes.specs.StrokeStore.{lastOf}
+use Rattle.strokes.specs.Code.StrokeSteps.{lastOf}
 use Rattle.machine.specs.Fractals.{taken}
 use mathlib.Core.Bool.{not}
 use mathlib.Core.Path.{ap}

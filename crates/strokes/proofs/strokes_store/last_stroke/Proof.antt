@@ -1,5 +1,5 @@
 use Rattle.strokes.proofs.StoredStrokes.{last-done}
-use Rattle.strokes.specs.StrokeStore.{lastPlace, lastBars, lastFractals}
+use Rattle.strokes.specs.Code.StrokeSteps.{lastPlace, lastBars, lastFractals}
 use mir.ValLaws.{toZ-ofZ}
 use mir.Syntax.{w64}
 use lib.ListN.{length, getD}

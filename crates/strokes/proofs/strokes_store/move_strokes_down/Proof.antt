@@ -1,5 +1,5 @@
-use Rattle.strokes.specs.StrokeStore.{copiedFractals}
-use Rattle.strokes.specs.Stored.{fractalStore}
+use Rattle.strokes.specs.Code.StrokeSteps.{copiedFractals}
+use Rattle.strokes.specs.Lent.{fractalStore}
 use borrow.Author.Needs.{needs}
 use Rattle.strokes.proofs.strokes_store.move_strokes_down.Statement.{statement}
 use Rattle.strokes.proofs.strokes_store.move_strokes_down.Tie as tie

@@ -1,5 +1,5 @@
 use Rattle.strokes.proofs.StoredStrokes.{shift-turn}
-use Rattle.strokes.specs.StrokeStore.{shifted}
+use Rattle.strokes.specs.Code.StrokeSteps.{shifted}
 use Rattle.bars.proofs.Moves.{copied-none, copied-end}
 use Rattle.bars.specs.Lists.{copied}
 use lib.ListN.{length}

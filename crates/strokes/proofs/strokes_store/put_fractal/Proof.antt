@@ -1,5 +1,5 @@
-use Rattle.strokes.specs.StrokeStore.{putFractal, putIf}
-use Rattle.strokes.specs.Stored.{FractalStore}
+use Rattle.strokes.specs.Code.StrokeSteps.{putFractal, putIf}
+use Rattle.strokes.specs.Lent.{FractalStore}
 use Prim.Native.Nat.{_+_}
 use mathlib.Core.Path.{ap, sym, _∙_, refl}
 use borrow.Author.Needs.{needs}

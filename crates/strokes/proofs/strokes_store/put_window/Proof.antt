@@ -1,6 +1,5 @@
 use Rattle.strokes.proofs.StoredFractals.{top-read, bottom-read}
-use Rattle.strokes.specs.StrokeStore.{putWindow, putWindowIf}
-use Rattle.machine.specs.Fractals.{isTop, isBottom}
+use Rattle.strokes.specs.Code.StrokeSteps.{putWindow, putWindowIf}
 use mathlib.Core.Bool.{true, false}
 use mathlib.Core.Path.{_≡_}
 use borrow.Author.Needs.{needs}

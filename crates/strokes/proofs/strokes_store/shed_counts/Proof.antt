@@ -1,6 +1,6 @@
 use Rattle.strokes.proofs.StoredStrokes.{counts-down}
-use Rattle.strokes.specs.StrokeStore.{shedStand}
-use Rattle.strokes.specs.Stored.{barCounts, fractalCounts}
+use Rattle.strokes.specs.Code.StrokeSteps.{shedStand}
+use Rattle.strokes.specs.StateRead.{barCounts, fractalCounts}
 use lib.ListN.{length}
 use Prim.Native.Nat.{_-_, _≤_}
 use mathlib.Core.Path.{_≡_}

@@ -1,5 +1,5 @@
 use Rattle.strokes.proofs.StoredStrokes.{total-step, total-end, length-take-most}
-use Rattle.strokes.specs.Stored.{total}
+use Rattle.strokes.specs.StateRead.{total}
 use lib.ListN.{length, take, drop}
 use mathlib.Core.Path.{_≡_, refl, sym, _∙_}
 use native.Mathlib.Omega.{arith}

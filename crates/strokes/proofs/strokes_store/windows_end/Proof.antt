@@ -1,4 +1,4 @@
-use Rattle.strokes.specs.StrokeStore.{windowsEnd, endIf}
+use Rattle.strokes.specs.Code.StrokeSteps.{windowsEnd, endIf}
 use borrow.Author.Tests.{lt-ltb, le-ltb}
 use borrow.Author.Needs.{needs}
 use Rattle.strokes.proofs.strokes_store.windows_end.Statement.{statement}

@@ -1,6 +1,6 @@
 use Rattle.strokes.proofs.StoredStrokes.{counts-more}
-use Rattle.strokes.specs.StrokeStore.{withStroke}
-use Rattle.strokes.specs.Stored.{barCounts, fractalCounts}
+use Rattle.strokes.specs.Code.StrokeSteps.{withStroke}
+use Rattle.strokes.specs.StateRead.{barCounts, fractalCounts}
 use lib.Seq.{length-take-le}
 use lib.ListN.{length}
 use native.Mathlib.Omega.{arith}

@@ -3,8 +3,9 @@ use mathlib.Core.List.{[], _∷_}
 use lib.ListN.{set}
 use mir.Syntax.{w64}
 use mir.ValLaws.{toZ-ofZ}
-use Rattle.strokes.specs.Stored.{fractalStore}
-use Rattle.strokes.specs.StrokeStore.{setFractal, stampsOf, pricesOf}
+use Rattle.strokes.specs.Lent.{fractalStore}
+use Rattle.strokes.specs.Code.StrokeSteps.{setFractal}
+use Rattle.strokes.specs.FractalRows.{stampsOf, pricesOf}
 use Rattle.bars.specs.Bars.{rowOf}
 use Rattle.strokes.proofs.strokes_store.write_fractal.Statement.{statement}
 use Rattle.strokes.proofs.strokes_store.write_fractal.Tie as tie

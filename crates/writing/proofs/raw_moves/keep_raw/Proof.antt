@@ -1,7 +1,4 @@
 use Rattle.writing.proofs.StepLaws.{raw-rooms, raw-sized, raw-fits, none-dropped, some-dropped}
-use Rattle.strokes.specs.StoreSteps.{keptRaw, rawOnly}
-use Rattle.machine.specs.Feed.{rawWith}
-use Rattle.stores.specs.Stores.{rawStore}
 use mir.ValLaws.{toZ-ofZ}
 use mir.Syntax.{w64}
 use lib.IntN.{pos}

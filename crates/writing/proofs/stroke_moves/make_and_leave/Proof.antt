@@ -1,7 +1,7 @@
 use Prim.Native.Nat.{ℕ}
 use borrow.Author.Needs.{length-unmapped}
 use Rattle.writing.proofs.MoveLaws.{can-make, can-leave, has-left, left-sized}
-use Rattle.strokes.specs.Stored.{fractalStore}
+use Rattle.strokes.specs.Lent.{fractalStore}
 use Rattle.stores.specs.Stores.{mergedStore}
 use lib.ListN.{length}
 use mathlib.Core.Path.{_≡_, sym, _∙_, ap}

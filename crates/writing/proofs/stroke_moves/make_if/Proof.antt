@@ -1,5 +1,5 @@
 use Rattle.writing.proofs.StepLaws.{made-one, made-none}
-use Rattle.strokes.specs.Stored.{fractalStore}
+use Rattle.strokes.specs.Lent.{fractalStore}
 use Rattle.stores.specs.Stores.{mergedStore}
 use mathlib.Core.Path.{sym, _∙_, ap}
 use native.Mathlib.Omega.{arith}

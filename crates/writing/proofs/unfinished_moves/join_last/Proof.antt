@@ -3,8 +3,8 @@ use borrow.Author.Needs.{length-unmapped}
 use Rattle.writing.proofs.StepLaws.{can-join, joined-last, last-elements}
 use lib.ListN.{length}
 use mathlib.Core.Path.{_≡_}
-use Rattle.strokes.specs.StrokeStore.{lastPlace, lastBars}
-use Rattle.strokes.specs.StoreSteps.{withoutLast, keptUnfinished}
+use Rattle.strokes.specs.Code.StrokeSteps.{lastPlace, lastBars}
+use Rattle.strokes.specs.Code.BarSteps.{withoutLast, keptUnfinished}
 use Rattle.stores.specs.Stores.{mergedStore}
 use mathlib.Core.Path.{sym, _∙_}
 use native.Mathlib.Omega.{arith}

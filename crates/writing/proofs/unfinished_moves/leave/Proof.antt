@@ -1,8 +1,7 @@
 use Rattle.writing.proofs.StepLaws.{left-breaks, left-joined, left-as-is, left-rooms, left-elements}
 use mathlib.Core.Path.{ap}
-use Rattle.writing.specs.WriteSteps.{restOf, leftStand}
-use Rattle.strokes.specs.StrokeStore.{lastPlace, lastBars}
-use Rattle.strokes.specs.StoreSteps.{withoutLast, keptUnfinished, withUnfinished}
+use Rattle.writing.specs.Code.WriteSteps.{restOf}
+use Rattle.strokes.specs.Code.BarSteps.{withoutLast, keptUnfinished, withUnfinished}
 use Rattle.stores.specs.Stores.{mergedStore}
 use lib.ListN.{drop}
 use mathlib.Core.Path.{sym, _∙_}

@@ -1,4 +1,4 @@
-use Rattle.zones.specs.FakeOfTwo.{fakeCount}
+use Rattle.zones.specs.Code.FakeOfTwo.{fakeCount}
 use borrow.Author.Needs.{needs}
 use Rattle.zones.proofs.fake_strokes.fake_count.Statement.{statement}
 use Rattle.zones.proofs.fake_strokes.fake_count.Tie as tie

@@ -1,4 +1,4 @@
-use Rattle.zones.specs.FakeOfTwo.{fakeOfTwo}
+use Rattle.zones.specs.Code.FakeOfTwo.{fakeOfTwo}
 use borrow.Author.Needs.{needs}
 use Rattle.zones.proofs.fake_strokes.fake_stroke.Statement.{statement}
 use Rattle.zones.proofs.fake_strokes.fake_stroke.Tie as tie

@@ -1,5 +1,5 @@
 use borrow.Author.Needs.{needs}
-use Rattle.sound.specs.SoundStand.{storesOf}
+use Rattle.strokes.specs.Lent.{storesOf}
 use Rattle.zones.proofs.NamedRunLaws.{stroke-here, fakes-listed, fakes-refused}
 use Rattle.zones.proofs.fake_writing.create_fake_bis.Statement.{statement}
 use Rattle.zones.proofs.fake_writing.create_fake_bis.Tie as tie

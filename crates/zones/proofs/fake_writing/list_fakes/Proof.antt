@@ -1,6 +1,6 @@
 use borrow.Author.Needs.{needs}
-use Rattle.strokes.specs.Stored.{fractalStore}
-use Rattle.zones.specs.StrokesRead.{fractalNumber}
+use Rattle.strokes.specs.Lent.{fractalStore}
+use Rattle.zones.specs.Code.StrokesRead.{fractalNumber}
 use Rattle.zones.specs.FakeRows.{fakeColumns}
 use Rattle.zones.proofs.NamedRunLaws.{fakes-room, fakes-put, fakes-full}
 use Rattle.zones.proofs.fake_writing.list_fakes.Statement.{statement}

@@ -1,8 +1,8 @@
 use borrow.Author.Needs.{needs}
 use native.Mathlib.Omega.{arith}
 use mathlib.Core.Path.{_≡_, subst, sym}
-use Rattle.zones.specs.StrokesRead.{strokePlace, fractalNumber}
-use Rattle.zones.specs.FakeRows.{RoomFakes, fakeColumns}
+use Rattle.zones.specs.Code.StrokesRead.{strokePlace, fractalNumber}
+use Rattle.zones.specs.Code.FakeSteps.{RoomFakes}
 use Rattle.zones.proofs.FakeReads.{put-done, rows-fit}
 use Rattle.zones.proofs.fake_writing.put_fakes.Statement.{statement}
 use Rattle.zones.proofs.fake_writing.put_fakes.Tie as tie

@@ -1,7 +1,7 @@
 use borrow.Author.Needs.{needs}
 use Prim.Native.Nat.{_≤_, _-_}
 use native.Mathlib.Omega.{arith}
-use Rattle.strokes.specs.Stored.{fractalStore}
+use Rattle.strokes.specs.Lent.{fractalStore}
 use Rattle.zones.specs.FakeRows.{fakeColumns}
 use Rattle.zones.proofs.FakeReads.{Writing, writing-none, writing-turn, writing-end, room-fakes}
 use Rattle.zones.proofs.fake_writing.write_fakes.Statement.{statement}

@@ -47,7 +47,7 @@ use denote.Triple.Walked.{says, Stays, stay-none-slice, stay-none, walkOf, Walks
 use Rattle.zones.specs.declared.Summary.{Summary}
 use Rattle.zones.specs.declared.zone_building.GrowingZone.{GrowingZone}
 use Rattle.zones.specs.Zones.{noStroke}
-use Rattle.zones.specs.GrowingZone.{joinedOf}
+use Rattle.zones.specs.Code.GrowingZone.{joinedOf}
 use Rattle.zones.proofs.Summary as E
 use Rattle.zones.proofs.Summary.Laws as E′
 use Rattle.zones.proofs.zone_building.GrowingZone as S

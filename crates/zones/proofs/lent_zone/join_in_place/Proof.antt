@@ -38,7 +38,7 @@ use denote.Triple.Walked.{says, Stays, stay-ref, stay-none, walkOf, AllGo, goes-
 use denote.Exit.{yes}
 use Rattle.zones.specs.declared.zone_building.GrowingZone.{GrowingZone}
 use Rattle.zones.specs.declared.Summary.{Summary}
-use Rattle.zones.specs.GrowingZone.{joinedOf}
+use Rattle.zones.specs.Code.GrowingZone.{joinedOf}
 use Rattle.zones.proofs.zone_building.GrowingZone as T
 use Rattle.zones.proofs.zone_building.GrowingZone.Laws as T′
 use Rattle.zones.proofs.Summary as U

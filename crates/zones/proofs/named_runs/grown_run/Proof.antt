@@ -3,9 +3,9 @@ use Prim.Native.Nat.{_+_, _-_, _≤_}
 use mathlib.Core.Path.{_≡_}
 use mathlib.Core.List.{foldl}
 use native.Mathlib.Omega.{arith}
-use Rattle.strokes.specs.Stored.{fractalStore}
-use Rattle.zones.specs.GrowingRun.{moreOf, runOf}
-use Rattle.zones.specs.StrokesRead.{summaryAt, readRun}
+use Rattle.strokes.specs.Lent.{fractalStore}
+use Rattle.zones.specs.Code.GrowingRun.{moreOf, runOf}
+use Rattle.zones.specs.Code.StrokesRead.{summaryAt, readRun}
 use Rattle.zones.proofs.StrokesReadLaws.{run-turn, run-end}
 use Rattle.zones.proofs.RunReads.{first-stands, run-begins}
 use Rattle.zones.proofs.named_runs.grown_run.Statement.{statement}

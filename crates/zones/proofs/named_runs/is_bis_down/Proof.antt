@@ -1,5 +1,5 @@
 use borrow.Author.Needs.{needs}
-use Rattle.sound.specs.SoundStand.{storesOf}
+use Rattle.strokes.specs.Lent.{storesOf}
 use Rattle.zones.proofs.NamedRunLaws.{run-here, down-answered, down-refused}
 use Rattle.zones.proofs.named_runs.is_bis_down.Statement.{statement}
 use Rattle.zones.proofs.named_runs.is_bis_down.Tie as tie

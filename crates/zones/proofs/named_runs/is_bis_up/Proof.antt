@@ -1,5 +1,5 @@
 use borrow.Author.Needs.{needs}
-use Rattle.sound.specs.SoundStand.{storesOf}
+use Rattle.strokes.specs.Lent.{storesOf}
 use Rattle.zones.proofs.NamedRunLaws.{run-here, up-answered, up-refused}
 use Rattle.zones.proofs.named_runs.is_bis_up.Statement.{statement}
 use Rattle.zones.proofs.named_runs.is_bis_up.Tie as tie

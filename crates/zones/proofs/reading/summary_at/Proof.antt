@@ -1,6 +1,6 @@
 use borrow.Author.Needs.{needs}
 use native.Mathlib.Omega.{arith}
-use Rattle.zones.specs.StrokesRead.{strokePlace, fractalNumber}
+use Rattle.zones.specs.Code.StrokesRead.{strokePlace, fractalNumber}
 use Rattle.zones.proofs.RunReads.{summary-done}
 use Rattle.zones.proofs.reading.summary_at.Statement.{statement}
 use Rattle.zones.proofs.reading.summary_at.Tie as tie

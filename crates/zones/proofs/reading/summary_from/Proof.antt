@@ -1,5 +1,5 @@
 use borrow.Author.Needs.{needs}
-use Rattle.zones.specs.StrokesRead.{summaryFrom}
+use Rattle.zones.specs.Code.StrokesRead.{summaryFrom}
 use Rattle.zones.proofs.reading.summary_from.Statement.{statement}
 use Rattle.zones.proofs.reading.summary_from.Tie as tie
 

@@ -1,7 +1,7 @@
 use borrow.Author.Needs.{needs}
 use mathlib.Core.Path.{ap}
 use Rattle.zones.specs.declared.zone_building.GrowingZone.{GrowingZone}
-use Rattle.zones.specs.ZoneRows.{buildingOf}
+use Rattle.zones.specs.Code.ZoneSteps.{buildingOf}
 use Rattle.zones.proofs.zone_writing.begin.Statement.{statement}
 use Rattle.zones.proofs.zone_writing.begin.Tie as tie
 

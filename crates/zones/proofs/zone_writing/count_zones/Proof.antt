@@ -1,9 +1,9 @@
 use borrow.Author.Needs.{needs}
 use Prim.Native.Nat.{_+_, _-_, _≤_}
 use native.Mathlib.Omega.{arith}
-use Rattle.strokes.specs.Stored.{fractalStore}
+use Rattle.strokes.specs.Lent.{fractalStore}
 use Rattle.zones.specs.Zones.{zones}
-use Rattle.zones.specs.StrokesRead.{readRun}
+use Rattle.zones.specs.Code.StrokesRead.{readRun}
 use Rattle.zones.proofs.RunReads.{first-stands}
 use Rattle.zones.proofs.ZoneWalks.{Walking, walk-begins, walk-next, walk-ends, no-zones}
 use Rattle.zones.proofs.zone_writing.count_zones.Statement.{statement}

@@ -1,5 +1,5 @@
 use borrow.Author.Needs.{needs}
-use Rattle.sound.specs.SoundStand.{storesOf}
+use Rattle.strokes.specs.Lent.{storesOf}
 use Rattle.zones.proofs.NamedRunLaws.{run-here}
 use Rattle.zones.proofs.ListedZoneLaws.{zones-listed, zones-refused}
 use Rattle.zones.proofs.zone_writing.get_zs_seq.Statement.{statement}

@@ -1,6 +1,6 @@
 use borrow.Author.Needs.{needs}
 use borrow.Author.Tests.{not-true, not-false}
-use Rattle.strokes.specs.Stored.{fractalStore}
+use Rattle.strokes.specs.Lent.{fractalStore}
 use Rattle.zones.specs.ZoneRows.{zoneColumns, strokeColumns}
 use Rattle.zones.proofs.ListedZoneLaws.{zones-full, zones-room, strokes-full, strokes-room, zones-put}
 use Rattle.zones.proofs.zone_writing.list_zones.Statement.{statement}

@@ -3,7 +3,7 @@ use Prim.Native.Nat.{_+_}
 use mathlib.Core.Path.{ap, sym, _∙_}
 use native.Mathlib.Omega.{arith}
 use Rattle.zones.specs.declared.zone_building.GrowingZone.{GrowingZone}
-use Rattle.zones.specs.ZoneRows.{nextOf, nextIf}
+use Rattle.zones.specs.Code.ZoneSteps.{nextOf, nextIf}
 use Rattle.zones.proofs.zone_writing.next.Statement.{statement}
 use Rattle.zones.proofs.zone_writing.next.Tie as tie
 

@@ -1,6 +1,6 @@
 use borrow.Author.Needs.{needs}
 use mathlib.Core.Path.{sym, _∙_}
-use Rattle.zones.specs.ZoneRows.{setIf}
+use Rattle.zones.specs.Code.ZoneSteps.{setIf}
 use Rattle.zones.proofs.zone_writing.write_done.Statement.{statement}
 use Rattle.zones.proofs.zone_writing.write_done.Tie as tie
 

@@ -1,7 +1,7 @@
 use borrow.Author.Needs.{needs}
 use Prim.Native.Nat.{_≤_, _-_}
 use native.Mathlib.Omega.{arith}
-use Rattle.strokes.specs.Stored.{fractalStore}
+use Rattle.strokes.specs.Lent.{fractalStore}
 use Rattle.zones.specs.ZoneRows.{strokeColumns}
 use Rattle.zones.proofs.ZoneWalks.{Listed, listed-none, listed-turn, listed-end, room-strokes}
 use Rattle.zones.proofs.zone_writing.write_strokes.Statement.{statement}

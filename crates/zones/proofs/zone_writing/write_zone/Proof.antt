@@ -4,7 +4,8 @@ use mathlib.Core.List.{[], _∷_}
 use lib.ListN.{set}
 use mir.Syntax.{w64}
 use mir.ValLaws.{toZ-ofZ}
-use Rattle.zones.specs.ZoneRows.{flag, setZone, zoneColumns}
+use Rattle.zones.specs.ZoneRows.{flag, zoneColumns}
+use Rattle.zones.specs.Code.ZoneSteps.{setZone}
 use Rattle.zones.proofs.zone_writing.write_zone.Statement.{statement}
 use Rattle.zones.proofs.zone_writing.write_zone.Tie as tie
 

@@ -2,11 +2,12 @@ use borrow.Author.Needs.{needs}
 use Prim.Native.Nat.{_+_, _-_, _≤_}
 use mathlib.Core.Path.{_≡_, ap}
 use native.Mathlib.Omega.{arith}
-use Rattle.strokes.specs.Stored.{fractalStore}
+use Rattle.strokes.specs.Lent.{fractalStore}
 use Rattle.zones.specs.declared.zone_writing.Building.{Building}
 use Rattle.zones.specs.Zones.{zones}
-use Rattle.zones.specs.StrokesRead.{readRun}
-use Rattle.zones.specs.ZoneRows.{zoneColumns, buildingOf}
+use Rattle.zones.specs.Code.StrokesRead.{readRun}
+use Rattle.zones.specs.ZoneRows.{zoneColumns}
+use Rattle.zones.specs.Code.ZoneSteps.{buildingOf}
 use Rattle.zones.proofs.RunReads.{first-stands}
 use Rattle.zones.proofs.ZoneWalks.{Walking, Zoned, walk-begins, walk-next, zoned-none, zoned-next, zone-room, zones-written, none-written}
 use Rattle.zones.proofs.zone_writing.write_zones.Statement.{statement}

@@ -1,5 +1,5 @@
 use lib.Ieee.{ofBits}
-use Rattle.arith.specs.Sums.{fitEnd, fitEndIf}
+use Rattle.arith.specs.Code.Accumulators.{fitEnd, fitEndIf}
 use borrow.Author.Needs.{needs}
 use Rattle.arith.proofs.sums.FitSums.acceleration.Statement.{statement}
 use Rattle.arith.proofs.sums.FitSums.acceleration.Tie as tie

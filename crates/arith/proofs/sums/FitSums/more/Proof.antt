@@ -1,6 +1,7 @@
 use mathlib.Core.Path.{refl}
 use lib.Ieee.{ofBits}
-use Rattle.arith.specs.Sums.{fitMore, x4Of, x3Of, x2Of, x2yOf, xyOf}
+use Rattle.arith.specs.Sums.{x4Of, x3Of, x2Of, x2yOf, xyOf}
+use Rattle.arith.specs.Code.Accumulators.{fitMore}
 use Rattle.arith.proofs.sums.FitSums.more.Statement.{statement}
 use Rattle.arith.proofs.sums.FitSums.more.Tie as tie
 

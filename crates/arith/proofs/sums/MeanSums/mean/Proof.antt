@@ -1,5 +1,5 @@
 use mathlib.Core.Path.{refl}
-use Rattle.arith.specs.Sums.{meanEnd}
+use Rattle.arith.specs.Code.Accumulators.{meanEnd}
 use Rattle.arith.proofs.sums.MeanSums.mean.Statement.{statement}
 use Rattle.arith.proofs.sums.MeanSums.mean.Tie as tie
 

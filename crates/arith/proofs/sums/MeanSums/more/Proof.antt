@@ -1,6 +1,6 @@
 use mathlib.Core.Path.{refl}
 use lib.Ieee.{ofBits}
-use Rattle.arith.specs.Sums.{meanMore}
+use Rattle.arith.specs.Code.Accumulators.{meanMore}
 use Rattle.arith.proofs.sums.MeanSums.more.Statement.{statement}
 use Rattle.arith.proofs.sums.MeanSums.more.Tie as tie
 

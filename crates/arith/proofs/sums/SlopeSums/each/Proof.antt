@@ -3,7 +3,7 @@ use mathlib.Core.Path.{_≡_, refl}
 use mathlib.Core.List.{foldl}
 use lib.ListN.{length, drop}
 use lib.Ieee.{nan}
-use Rattle.arith.specs.Sums.{slopeMore}
+use Rattle.arith.specs.Code.Accumulators.{slopeMore}
 use Rattle.arith.proofs.SumLaws.{fold-turn, fold-end}
 use borrow.Author.Needs.{needs}
 use Rattle.arith.proofs.sums.SlopeSums.each.Statement.{statement}

@@ -1,6 +1,7 @@
 use mathlib.Core.Path.{refl}
 use lib.Ieee.{ofBits}
-use Rattle.arith.specs.Sums.{slopeMore, cross, square}
+use Rattle.arith.specs.Sums.{cross, square}
+use Rattle.arith.specs.Code.Accumulators.{slopeMore}
 use Rattle.arith.proofs.sums.SlopeSums.more.Statement.{statement}
 use Rattle.arith.proofs.sums.SlopeSums.more.Tie as tie
 

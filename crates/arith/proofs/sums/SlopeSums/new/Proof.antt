@@ -1,6 +1,7 @@
 use mathlib.Core.Path.{refl}
 use lib.Ieee.{ofBits, neg}
-use Rattle.arith.specs.Sums.{slopeStart, middle, meanEnd}
+use Rattle.arith.specs.Sums.{middle}
+use Rattle.arith.specs.Code.Accumulators.{slopeStart, meanEnd}
 use Rattle.arith.proofs.sums.SlopeSums.new.Statement.{statement}
 use Rattle.arith.proofs.sums.SlopeSums.new.Tie as tie
 

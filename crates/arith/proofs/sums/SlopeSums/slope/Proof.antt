@@ -1,5 +1,5 @@
 use lib.Ieee.{ofBits}
-use Rattle.arith.specs.Sums.{slopeEnd, slopeEndIf}
+use Rattle.arith.specs.Code.Accumulators.{slopeEnd, slopeEndIf}
 use borrow.Author.Needs.{needs}
 use Rattle.arith.proofs.sums.SlopeSums.slope.Statement.{statement}
 use Rattle.arith.proofs.sums.SlopeSums.slope.Tie as tie

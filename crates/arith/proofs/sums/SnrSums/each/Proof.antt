@@ -3,7 +3,8 @@ use Prim.Native.Nat.{_-_, _≤_}
 use mathlib.Core.Path.{_≡_, refl}
 use mathlib.Core.List.{foldl}
 use lib.ListN.{drop}
-use Rattle.arith.specs.Sums.{snrMore, pairs}
+use Rattle.arith.specs.Sums.{pairs}
+use Rattle.arith.specs.Code.Accumulators.{snrMore}
 use borrow.Author.Needs.{needs}
 use Rattle.arith.proofs.sums.SnrSums.each.Statement.{statement}
 use Rattle.arith.proofs.sums.SnrSums.each.Tie as tie

@@ -1,5 +1,5 @@
 use borrow.Author.Tests.{eq-eqb, ne-eqb}
-use Rattle.arith.specs.Sums.{snrMore, snrMoreIf}
+use Rattle.arith.specs.Code.Accumulators.{snrMore, snrMoreIf}
 use borrow.Author.Needs.{needs}
 use Rattle.arith.proofs.sums.SnrSums.more.Statement.{statement}
 use Rattle.arith.proofs.sums.SnrSums.more.Tie as tie

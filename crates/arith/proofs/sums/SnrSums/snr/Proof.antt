@@ -1,6 +1,6 @@
 use lib.Ieee.{ofBits}
 use borrow.Author.Tests.{eq-eqb, ne-eqb}
-use Rattle.arith.specs.Sums.{snrEnd, snrEndIf}
+use Rattle.arith.specs.Code.Accumulators.{snrEnd, snrEndIf}
 use borrow.Author.Needs.{needs}
 use Rattle.arith.proofs.sums.SnrSums.snr.Statement.{statement}
 use Rattle.arith.proofs.sums.SnrSums.snr.Tie as tie

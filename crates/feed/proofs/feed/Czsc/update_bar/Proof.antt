@@ -1,8 +1,7 @@
 use mathlib.Core.Path.{_≡_, sym, _∙_}
 use Rattle.stores.specs.Stores.{rawStore, mergedStore}
-use Rattle.strokes.specs.Stored.{fractalStore}
-use Rattle.sound.specs.SoundStand.{storesOf}
-use Rattle.sound.proofs.SoundFacts.{is-sound}
+use Rattle.strokes.specs.Lent.{fractalStore, storesOf}
+use Rattle.question4.proofs.Question4Passed.{is-sound}
 use Rattle.feed.proofs.FeedLaws.{feed-4, fed-lengths}
 use Rattle.feed.proofs.PortDemand3.{port-demand3}
 use borrow.Author.Needs.{needs}

@@ -5,8 +5,8 @@ use lib.ListN.{length, take, drop, getD}
 use lib.Ieee.{Float, nan, fits, binary64}
 use lib.Dec.{T}
 use Rattle.bars.specs.Lists.{every}
-use Rattle.arith.specs.Sums.{meanMore, fitMore, snrMore}
-use Rattle.reports.specs.ElementPrices.{meanAt, fitAt, snrAt, fitsAt}
+use Rattle.arith.specs.Code.Accumulators.{meanMore, fitMore, snrMore}
+use Rattle.reports.specs.Code.ElementPrices.{meanAt, fitAt, snrAt, fitsAt}
 use Rattle.reports.proofs.MeasureLaws.{element-named, element-turn, element-end, element-fits, elements-fit}
 use borrow.Author.Needs.{needs}
 use Rattle.reports.proofs.measures.InnerSums.row.Statement.{statement}

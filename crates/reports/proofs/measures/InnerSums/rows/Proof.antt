@@ -4,7 +4,7 @@ use mathlib.Core.List.{foldl}
 use lib.ListN.{length, take, drop}
 use Rattle.bars.specs.Lists.{join, every}
 use Rattle.stores.specs.Stores.{zipWith}
-use Rattle.reports.specs.ElementPrices.{meanAt, fitAt, snrAt, fitsAt}
+use Rattle.reports.specs.Code.ElementPrices.{meanAt, fitAt, snrAt, fitsAt}
 use Rattle.reports.proofs.MeasureLaws.{row-named, row-turn, row-end, row-fits, rows-fit}
 use lib.Dec.{T}
 use borrow.Author.Needs.{needs}

@@ -1,6 +1,6 @@
 use mir.ValLaws.{toZ-ofZ}
 use mir.Syntax.{w64}
-use Rattle.zones.specs.GrowingRun.{inOrderWith}
+use Rattle.zones.specs.Code.GrowingRun.{inOrderWith}
 use borrow.Author.Needs.{needs}
 use Rattle.zones.proofs.runs_of_strokes.GrowingRun.in_order_with.Statement.{statement}
 use Rattle.zones.proofs.runs_of_strokes.GrowingRun.in_order_with.Tie as tie

@@ -1,4 +1,4 @@
-use Rattle.zones.specs.GrowingRun.{upOf}
+use Rattle.zones.specs.Code.GrowingRun.{upOf}
 use mathlib.Core.Path.{sym, _∙_}
 use borrow.Author.Needs.{needs}
 use Rattle.zones.proofs.runs_of_strokes.GrowingRun.is_bis_up.Statement.{statement}

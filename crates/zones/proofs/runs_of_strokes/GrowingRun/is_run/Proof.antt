@@ -1,4 +1,4 @@
-use Rattle.zones.specs.GrowingRun.{isRunOf}
+use Rattle.zones.specs.Code.GrowingRun.{isRunOf}
 use Rattle.zones.proofs.runs_of_strokes.GrowingRun.is_run.Statement.{statement}
 use Rattle.zones.proofs.runs_of_strokes.GrowingRun.is_run.Tie as tie
 

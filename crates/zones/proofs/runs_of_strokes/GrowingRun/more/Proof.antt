@@ -1,4 +1,4 @@
-use Rattle.zones.specs.GrowingRun.{moreOf}
+use Rattle.zones.specs.Code.GrowingRun.{moreOf}
 use borrow.Author.Needs.{needs}
 use Rattle.zones.proofs.runs_of_strokes.GrowingRun.more.Statement.{statement}
 use Rattle.zones.proofs.runs_of_strokes.GrowingRun.more.Tie as tie

@@ -1,4 +1,4 @@
-use Rattle.zones.specs.GrowingRun.{begun}
+use Rattle.zones.specs.Code.GrowingRun.{begun}
 use lib.Ieee.{ofBits, div, neg}
 use borrow.Author.Needs.{needs}
 use Rattle.zones.proofs.runs_of_strokes.GrowingRun.start.Statement.{statement}

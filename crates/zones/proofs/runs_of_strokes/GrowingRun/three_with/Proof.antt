@@ -1,4 +1,4 @@
-use Rattle.zones.specs.GrowingRun.{threeWith}
+use Rattle.zones.specs.Code.GrowingRun.{threeWith}
 use Rattle.zones.proofs.runs_of_strokes.GrowingRun.three_with.Statement.{statement}
 use Rattle.zones.proofs.runs_of_strokes.GrowingRun.three_with.Tie as tie
 

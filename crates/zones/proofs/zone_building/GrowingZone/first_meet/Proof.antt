@@ -1,4 +1,4 @@
-use Rattle.zones.specs.GrowingZone.{firstMeet}
+use Rattle.zones.specs.Code.GrowingZone.{firstMeet}
 use mathlib.Core.Path.{sym, _∙_}
 use borrow.Author.Needs.{needs}
 use Rattle.zones.proofs.zone_building.GrowingZone.first_meet.Statement.{statement}

@@ -1,4 +1,4 @@
-use Rattle.zones.specs.GrowingZone.{validOf}
+use Rattle.zones.specs.Code.GrowingZone.{validOf}
 use mathlib.Core.Path.{sym, _∙_}
 use borrow.Author.Needs.{needs}
 use Rattle.zones.proofs.zone_building.GrowingZone.is_valid.Statement.{statement}

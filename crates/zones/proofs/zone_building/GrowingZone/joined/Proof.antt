@@ -1,4 +1,4 @@
-use Rattle.zones.specs.GrowingZone.{joinedOf, joinedIf}
+use Rattle.zones.specs.Code.GrowingZone.{joinedOf, joinedIf}
 use borrow.Author.Tests.{eq-eqb, ne-eqb}
 use borrow.Author.Needs.{needs}
 use Rattle.zones.proofs.zone_building.GrowingZone.joined.Statement.{statement}

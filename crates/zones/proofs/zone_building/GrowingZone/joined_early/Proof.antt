@@ -1,4 +1,4 @@
-use Rattle.zones.specs.GrowingZone.{joinedEarly}
+use Rattle.zones.specs.Code.GrowingZone.{joinedEarly}
 use borrow.Author.Needs.{needs}
 use Rattle.zones.proofs.zone_building.GrowingZone.joined_early.Statement.{statement}
 use Rattle.zones.proofs.zone_building.GrowingZone.joined_early.Tie as tie

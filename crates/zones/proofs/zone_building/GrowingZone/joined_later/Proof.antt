@@ -1,4 +1,4 @@
-use Rattle.zones.specs.GrowingZone.{joinedLater}
+use Rattle.zones.specs.Code.GrowingZone.{joinedLater}
 use borrow.Author.Needs.{needs}
 use Rattle.zones.proofs.zone_building.GrowingZone.joined_later.Statement.{statement}
 use Rattle.zones.proofs.zone_building.GrowingZone.joined_later.Tie as tie

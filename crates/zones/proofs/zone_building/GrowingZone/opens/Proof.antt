@@ -1,4 +1,4 @@
-use Rattle.zones.specs.GrowingZone.{opensOf, outsideOf}
+use Rattle.zones.specs.Code.GrowingZone.{opensOf, outsideOf}
 use borrow.Author.Needs.{needs}
 use Rattle.zones.proofs.zone_building.GrowingZone.opens.Statement.{statement}
 use Rattle.zones.proofs.zone_building.GrowingZone.opens.Tie as tie

@@ -1,4 +1,4 @@
-use Rattle.zones.specs.GrowingZone.{started}
+use Rattle.zones.specs.Code.GrowingZone.{started}
 use lib.Ieee.{ofBits, div, neg}
 use borrow.Author.Needs.{needs}
 use Rattle.zones.proofs.zone_building.GrowingZone.start.Statement.{statement}

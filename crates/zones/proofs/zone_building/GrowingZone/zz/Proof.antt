@@ -1,4 +1,4 @@
-use Rattle.zones.specs.GrowingZone.{zzOf}
+use Rattle.zones.specs.Code.GrowingZone.{zzOf}
 use lib.Ieee.{ofBits}
 use mathlib.Core.Path.{refl}
 use Rattle.zones.proofs.zone_building.GrowingZone.zz.Statement.{statement}

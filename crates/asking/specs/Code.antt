@@ -1,0 +1,4 @@
+pub mod FeedPlan
+pub mod MergedTail
+pub mod Asked
+pub mod AskSteps

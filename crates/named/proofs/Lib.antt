@@ -1,0 +1,2 @@
+pub mod StrokeAt
+pub mod RunLengths

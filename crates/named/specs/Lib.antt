@@ -1,0 +1,3 @@
+pub mod ReportQuestions
+pub mod Folds
+pub mod Code

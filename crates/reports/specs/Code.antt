@@ -1,0 +1,9 @@
+pub mod ElementPrices
+pub mod SeekFractals
+pub mod FxListing
+pub mod FxTurns
+pub mod FxRows
+pub mod InnerRawSteps
+pub mod ListSteps
+pub mod MeasuredRows
+pub mod UbiSteps

@@ -1,0 +1,2 @@
+pub mod SoundStand
+pub mod NewestBar

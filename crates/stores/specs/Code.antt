@@ -1,0 +1,3 @@
+pub mod TailRows
+pub mod StoreRows
+pub mod StoreCases

@@ -1,0 +1,5 @@
+pub mod ElementCounts
+pub mod BarSteps
+pub mod StrokeSteps
+pub mod BarStepCases
+pub mod StrokeStepCases

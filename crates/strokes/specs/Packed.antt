@@ -1,0 +1,38 @@
+-- A stand packed in lent rows of numbers, as it is kept between two calls. Definitions only.
+use Prim.Native.Nat.{ℕ}
+use mathlib.Core.List.{List, [], _∷_}
+use lib.ListN.{getD}
+use denote.Ref.{now}
+use Rattle.stores.specs.Lent.{Lent}
+use Rattle.strokes.specs.declared.Stand.{Stand}
+
+-- the stand of these eight numbers and of these numbers of bars and of fractals
+unfoldable pub standOf : List ℕ → List ℕ → List ℕ → Stand
+standOf n b f =
+    record {
+      minimum = getD n 0 0;
+      most = getD n 1 0;
+      rooms = record { raw = getD n 2 0; unfinished = getD n 3 0; strokes = getD n 4 0 };
+      raw = getD n 5 0;
+      unfinished = getD n 6 0;
+      strokes = getD n 7 0;
+      bars = b;
+      fractals = f;
+    }
+
+-- the stand that is packed in the first row of ns and the first two rows of cs
+unfoldable pub packed : List (List ℕ) → List (List ℕ) → Stand
+unfolding standOf
+packed ns cs = standOf (getD ns 0 []) (getD cs 0 []) (getD cs 1 [])
+
+-- a stand's eight numbers
+unfoldable pub numbersOf : Stand → List ℕ
+numbersOf s =
+    s .minimum ∷ s .most ∷ s .rooms .raw ∷ s .rooms .unfinished ∷ s .rooms .strokes ∷ s .raw ∷ s .unfinished ∷ s .strokes ∷ []
+
+-- in a contract: the stand that lies in the rows before a call and after it
+abbrev pub packedBefore : Lent (List ℕ) → Lent (List ℕ) → Stand
+packedBefore ns cs = packed (now (ns .entry)) (now (cs .entry))
+
+abbrev pub packedAfter : Lent (List ℕ) → Lent (List ℕ) → Stand
+packedAfter ns cs = packed (now (ns .exit)) (now (cs .exit))

@@ -1,0 +1,2 @@
+pub mod WriteSteps
+pub mod Written
