@@ -1,33 +1,20 @@
 -- The batch call asks of question 4 only the clause on the newest raw bar: of what is reached from a fresh analyzer the other clauses hold. Laws on lists of
 -- calls that grow at the end. Assumes nothing.
 use Prim.Native.Nat.{ℕ, zero, suc}
-use native.Mathlib.Omega.{arith}
 use mathlib.Core.Path.{_≡_, refl, ap, sym, _∙_, subst}
-use mathlib.Core.Bool.{Bool, true, _&&_}
+use mathlib.Core.Bool.{true}
 use mathlib.Core.List.{List, [], _∷_, _++_}
-use lib.Dec.{T}
-use lib.Ieee.Bits.{is-true}
-use lib.Ieee.Fits.{and-l, and-r}
 use Rattle.bars.specs.declared.Bar.{Bar}
-use Rattle.machine.specs.Stand.{Settings, State}
 use Rattle.machine.specs.Feed.{Events}
-use Rattle.machine.specs.Soundness.{countsFit, listsSound, settingsSound, soundBut, newestLast, sound}
 use Rattle.machine.specs.Calls.{calls}
-use Rattle.machine.proofs.ReachedSound.{reached-sound}
 use Rattle.strokes.specs.declared.Stand.{Stand}
-use Rattle.strokes.specs.StateRead.{settingsOf, stateOf, storesSized, sized, bareState}
+use Rattle.strokes.specs.StateRead.{storesSized}
 use Rattle.strokes.specs.Lent.{Stores}
-use Rattle.strokes.proofs.BareSound.{bare-sound}
-use Rattle.sound.specs.FreshStand.{freshOf}
-use Rattle.question4.specs.Question4.{question4}
-use Rattle.sound.specs.StandSound.{storesSound}
-use Rattle.sound.proofs.FreshLaws.{fresh-sound}
 use Rattle.feed.specs.PortCalls.{FeedIs, added, PortCalls, none, call, acceptedIf, acceptedOf, FreshCalls, begun}
 use Rattle.batch.specs.BatchCalls.{AllAccepted}
 use Rattle.batch.specs.Code.BatchSteps.{NewestAsked, Begun}
 use Rattle.feed.proofs.PortFollows.{added-assoc, added-none, none-added}
-use Rattle.feed.proofs.PortStays.{settings-stay, sizes-stay}
-use Rattle.feed.proofs.PortDemand3.{port-demand3}
+use Rattle.feed.proofs.PortReached.{reached-asks, reached-sizes}
 
 -- ---- one more call
 
@@ -72,40 +59,6 @@ accepted-snoc {b = b} a f =
     record { calls = w .calls; taken = w .taken ∙ ap (λ (l : List Bar). l ++ b ∷ []) (a .taken) }
 
 -- ---- of what is reached, only the newest raw bar is in doubt
-
-fresh-passes : (s : Stand) (m : Stores) → sized s m && sound (settingsOf s) (stateOf s m) ≡ true → T (sized s m) × T (settingsSound (settingsOf s))
-unfolding sound soundBut
-fresh-passes s m e =
-    let c = settingsOf s in
-    let x = stateOf s m in
-    let h : T (sized s m && sound c x) = subst T (sym e) tt in
-    let b = countsFit c x && listsSound (c .most) x in
-    let u = settingsSound c && b in
-    let k = and-r (sized s m) (u && newestLast x) h in
-    (and-l (sized s m) (u && newestLast x) h, and-l (settingsSound c) b (and-l u (newestLast x) k))
-
-newest-bare : (x : State) → newestLast x ≡ newestLast (bareState x)
-unfolding newestLast bareState
-newest-bare x = refl
-
-asks-newest : (c : Settings) (x : State) → T (soundBut c x) → sound c (bareState x) ≡ newestLast (bareState x)
-unfolding sound
-asks-newest c x h = bare-sound c x ∙ ap (λ (t : Bool). t && newestLast x) (is-true (soundBut c x) h) ∙ newest-bare x
-
-pub reached-asks : (r : FreshCalls) → (freshOf (r .minimum) (r .most) (r .rooms)) .refused ≡ 0 → storesSized (begun r) (r .lent) ≡ true
-    → question4 (r .stand) (r .stores) ≡ newestLast (stateOf (r .stand) (r .stores))
-unfolding question4 storesSound
-reached-asks r z h =
-    let c = settingsOf (begun r) in
-    let f = fresh-passes (begun r) (r .lent) (fresh-sound (r .minimum) (r .most) (r .rooms) (r .lent) z h) in
-    let e = port-demand3 .machine r h in
-    (λ i. is-true (sized (r .stand) (r .stores)) (sizes-stay (r .calls) (f .0)) i && sound (settings-stay (r .calls) i) (e i))
-    ∙ asks-newest c ((calls c (r .bars)) .state) (reached-sound .every c (f .1) (r .bars))
-    ∙ ap newestLast (sym e)
-
-pub reached-sizes : (r : FreshCalls) → (freshOf (r .minimum) (r .most) (r .rooms)) .refused ≡ 0 → storesSized (begun r) (r .lent) ≡ true → T (sized (r .stand) (r .stores))
-reached-sizes r z h =
-    sizes-stay (r .calls) ((fresh-passes (begun r) (r .lent) (fresh-sound (r .minimum) (r .most) (r .rooms) (r .lent) z h)) .0)
 
 pub begun-asks : {s t : Stand} {m k : Stores} {bs : List Bar} {e : Events} → Begun s m → PortCalls s m bs e t k → NewestAsked t k
 begun-asks {t = t} {m = m} {k = k} {bs = bs} {e = e} b p =

@@ -31,7 +31,7 @@ use Rattle.feed.specs.PortCalls.{failedBy, FeedIs, added, none, acceptedOf}
 use Rattle.batch.specs.BatchCalls.{AllAccepted, BatchFed, BatchIs}
 use Rattle.batch.specs.Code.BatchSteps.{NewestAsked, Begun, CanBatch, CanNext, NextIs, CanAdvance, advanced, leftOf}
 use Rattle.feed.proofs.PortFollows.{refused-4}
-use Rattle.feed.proofs.SameLengths.{SameLengths}
+use Rattle.writing.proofs.SameLengths.{SameLengths}
 use Rattle.feed.proofs.PortStays.{calls-lengths}
 use Rattle.batch.proofs.BatchFollows.{accepted-snoc, begun-asks}
 

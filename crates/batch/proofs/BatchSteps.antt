@@ -21,7 +21,7 @@ use Rattle.feed.specs.PortCalls.{FeedIs, none, call}
 use Rattle.batch.specs.BatchCalls.{BatchFed, BatchIs}
 use Rattle.batch.specs.Code.BatchSteps.{NewestAsked, CanBatch, NextIs, advanced, leftOf}
 use Rattle.batch.proofs.BatchFollows.{begun-asks}
-use Rattle.feed.proofs.SameLengths.{SameLengths}
+use Rattle.writing.proofs.SameLengths.{SameLengths}
 use Rattle.feed.proofs.PortStays.{calls-lengths}
 use Rattle.batch.proofs.BatchLoop.{Onward, onward-end, newest-refused, newest-sound, first-refused, none-fed, batch-answered, count-is, can-batch}
 

@@ -13,7 +13,7 @@ use Rattle.sound.specs.StandSound.{IsSound, storesSound}
 use Rattle.question4.specs.Question4.{question4}
 use Rattle.feed.specs.PortCalls.{failedBy, FeedIs, call, none}
 use Rattle.feed.specs.declared.feed.FeedAnswer.{FeedAnswer}
-use Rattle.feed.proofs.SameLengths.{SameLengths}
+use Rattle.writing.proofs.SameLengths.{SameLengths}
 use Rattle.feed.proofs.PortStays.{calls-lengths}
 use Rattle.asking.specs.declared.questions.Asked.{Asked}
 use Rattle.asking.specs.Code.Asked.{AskedOf}

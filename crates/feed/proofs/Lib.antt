@@ -2,7 +2,8 @@ pub mod PortFollows
 pub mod BareClaims
 pub mod PortAnswers
 pub mod StrokesLeftKept
-pub mod PortDemand3
-pub mod SameLengths
+pub mod PortMachine
 pub mod PortStays
+pub mod PortReached
+pub mod PortDemand3
 pub mod FeedLaws

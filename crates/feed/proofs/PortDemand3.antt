@@ -1,24 +1,21 @@
 -- Demand 3 of the port: the claims of specs/PortClaims, from those of the plain machine. Assumes nothing.
-use Prim.Native.Nat.{ℕ, zero, suc, _+_}
+use Prim.Native.Nat.{_+_}
 use mathlib.Core.Path.{_≡_, refl, ap, sym, _∙_, subst}
-use mathlib.Core.Bool.{Bool, true, false, _&&_}
+use mathlib.Core.Bool.{Bool, true, false}
 use mathlib.Core.List.{List, [], map}
 use mathlib.Core.Option.{none}
 use lib.ListN.{length, length-map}
-use lib.Dec.{T, leb·zero}
+use lib.Dec.{T}
 use Rattle.bars.specs.declared.Bar.{Bar}
-use Rattle.bars.specs.Lists.{All, every, join}
-use Rattle.machine.specs.Stand.{Settings, State, fresh}
+use Rattle.bars.specs.Lists.{All, join}
+use Rattle.machine.specs.Stand.{State, fresh}
 use Rattle.machine.specs.Feed.{Events}
-use Rattle.machine.specs.Calls.{none-yet, run, start, calls, accepted, eachLater}
+use Rattle.machine.specs.Calls.{run, start, calls, accepted, eachLater}
 use Rattle.machine.specs.KeptStrokes.{MeetAll}
 use Rattle.machine.specs.Reached.{Later}
 use Rattle.machine.proofs.ByPlace.{search-by-time}
 use Rattle.machine.proofs.ReachedSound.{reached-by-time}
-use Rattle.strokes.specs.declared.Rooms.{Rooms}
-use Rattle.strokes.specs.StateRead.{settingsOf, stateOf, barCounts, total, storesSized, countsSized, elementsSized, sized, bareStroke, bareState}
-use Rattle.strokes.specs.Lent.{Stores}
-use Rattle.sound.specs.FreshStand.{orDefault, emptyStand, noStand, freshFailed, freshBy, freshOf}
+use Rattle.strokes.specs.StateRead.{stateOf, storesSized, bareStroke, bareState}
 use Rattle.sound.proofs.FreshLaws.{fresh-state}
 use Rattle.zones.specs.Zones.{Zone, summary, getZsSeq}
 use Rattle.zones.specs.Claims.{kept, Inside}
@@ -26,52 +23,12 @@ use Rattle.feed.specs.PortCalls.{acceptedOf, FreshCalls, begun}
 use Rattle.feed.specs.StrokesLeft.{Left}
 use Rattle.feed.specs.PortClaims.{keptOf, machineStrokes, bareEvents, PortDemand3}
 use Rattle.zones.proofs.Demand3.{demand3}
-use Rattle.feed.proofs.PortFollows.{FollowedAll, follows, Idle, idle, none-added}
+use Rattle.feed.proofs.PortFollows.{idle}
+use Rattle.feed.proofs.PortMachine.{settings, followed, machine, events, unheard}
+use Rattle.feed.proofs.PortReached.{reached-asks, reached-later, reached-shallow}
 use Rattle.feed.proofs.StrokesLeftKept.{left-kept, left-counted, left-map, only-left}
 use Rattle.feed.proofs.PortAnswers.{zones-answered, zones-told, fakes-answered, fakes-told}
 use Rattle.feed.proofs.BareClaims.{summaries-bare, all-inside-bare, meet-all-bare}
-
--- ---- a fresh stand holds nothing, so that its counts fit stores of any lengths
-
-empty-sized : (a b : ℕ) (rooms : Rooms) (m : Stores) → sized (emptyStand a b rooms) m ≡ storesSized (emptyStand a b rooms) m && true
-unfolding sized countsSized elementsSized emptyStand barCounts total every
-empty-sized a b rooms m = rw (leb·zero (rooms .raw), leb·zero (rooms .unfinished), leb·zero (rooms .strokes))
-
-by-failed : (n minimum most : ℕ) (rooms : Rooms) (m : Stores)
-    → sized ((freshBy n minimum most rooms) .stand) m ≡ storesSized ((freshBy n minimum most rooms) .stand) m && true
-unfolding freshBy noStand
-by-failed zero minimum most rooms m = empty-sized (orDefault minimum 6) (orDefault most 50) rooms m
-by-failed (suc n) minimum most rooms m = empty-sized 0 0 (record { raw = 0; unfinished = 0; strokes = 0 }) m
-
-fresh-sized : (r : FreshCalls) → sized (begun r) (r .lent) ≡ storesSized (begun r) (r .lent) && true
-unfolding freshOf
-fresh-sized r = by-failed (freshFailed (r .minimum) (r .most) (r .rooms)) (r .minimum) (r .most) (r .rooms) (r .lent)
-
-fresh-bare : bareState fresh ≡ fresh
-unfolding bareState fresh
-fresh-bare = refl
-
--- ---- from a fresh analyzer
-
-abbrev settings : FreshCalls → Settings
-settings r = settingsOf (begun r)
-
-followed : (r : FreshCalls) → storesSized (begun r) (r .lent) ≡ true
-    → FollowedAll (settings r) fresh none-yet (r .bars) (r .sums) (acceptedOf (r .calls)) (r .stand) (r .stores)
-followed r h =
-    follows (r .calls) fresh none-yet (subst T (sym (fresh-sized r ∙ ap (λ (t : Bool). t && true) h)) tt)
-    (fresh-state (r .minimum) (r .most) (r .rooms) (r .lent) ∙ sym fresh-bare)
-
-machine : (r : FreshCalls) → storesSized (begun r) (r .lent) ≡ true → stateOf (r .stand) (r .stores) ≡ bareState ((calls (settings r) (r .bars)) .state)
-unfolding calls start
-machine r h = (followed r h) .state
-
-events : (r : FreshCalls) → storesSized (begun r) (r .lent) ≡ true → r .sums ≡ (calls (settings r) (r .bars)) .events
-unfolding calls start
-events r h = sym (none-added (r .sums)) ∙ (followed r h) .events
-
-unheard : (r : FreshCalls) → storesSized (begun r) (r .lent) ≡ false → Idle (r .calls)
-unheard r h = idle (r .calls) (fresh-sized r ∙ ap (λ (t : Bool). t && true) h)
 
 -- ---- the kept strokes are those of a list of the machine's calls
 
@@ -147,6 +104,9 @@ port-demand3 =
     record {
       machine = machine;
       events = events;
+      sound-but = reached-asks;
+      sound-later = reached-later;
+      sound-shallow = reached-shallow;
       by-time = search-by-time;
       by-time-reached = reached-by-time;
       idle = λ r h. ((unheard r h) .stand, (unheard r h) .stores, (unheard r h) .events);

@@ -10,7 +10,7 @@ use Rattle.strokes.specs.declared.Stand.{Stand}
 use Rattle.strokes.specs.StateRead.{settingsOf, sized}
 use Rattle.strokes.specs.Lent.{Stores}
 use Rattle.feed.specs.PortCalls.{PortCalls, none, call}
-use Rattle.feed.proofs.SameLengths.{SameLengths, lengths-of}
+use Rattle.writing.proofs.SameLengths.{SameLengths, lengths-of}
 
 pub settings-stay : {s t : Stand} {m k : Stores} {bs : List Bar} {e : Events} → PortCalls s m bs e t k → settingsOf t ≡ settingsOf s
 settings-stay none = refl

@@ -12,10 +12,13 @@ use Rattle.machine.specs.Fractals.{timeOf}
 use Rattle.machine.specs.Strokes.{Stroke, directionOf}
 use Rattle.machine.specs.Stand.{fresh}
 use Rattle.machine.specs.Calls.{calls, none-yet, eachLater}
+use Rattle.machine.specs.Soundness.{newestLast}
+use Rattle.machine.specs.Reached.{Shallow}
 use Rattle.machine.specs.KeptStrokes.{MeetAll}
 use Rattle.machine.specs.SearchByTime.{SearchByTime}
 use Rattle.machine.specs.ReachedByTime.{ReachedByTime}
 use Rattle.strokes.specs.StateRead.{settingsOf, stateOf, storesSized, bareStroke, bareState}
+use Rattle.sound.specs.FreshStand.{freshOf}
 use Rattle.question4.specs.Question4.{question4}
 use Rattle.named.specs.ReportQuestions.{nth}
 use Rattle.zones.specs.declared.FakeStroke.{FakeStroke}
@@ -87,6 +90,14 @@ pub record PortDemand3 : Type 0 where
   -- lent stores of the recorded lengths: what is held is what the plain machine holds, but for the elements of fractals' bars, and the sums are the machine's
   pub machine : (r : FreshCalls) → storesSized (begun r) (r .lent) ≡ true → stateOf (r .stand) (r .stores) ≡ bareState ((calls (settingsOf (begun r)) (r .bars)) .state)
   pub events : (r : FreshCalls) → storesSized (begun r) (r .lent) ≡ true → r .sums ≡ (calls (settingsOf (begun r)) (r .bars)) .events
+  -- a fresh analyzer that was not refused, and lent stores of the recorded lengths: of question 4 every clause holds but the one on the newest raw bar ..
+  pub sound-but : (r : FreshCalls) → (freshOf (r .minimum) (r .most) (r .rooms)) .refused ≡ 0 → storesSized (begun r) (r .lent) ≡ true
+      → question4 (r .stand) (r .stores) ≡ newestLast (stateOf (r .stand) (r .stores))
+  -- .. and that one too where every accepted bar was later than the one before, or where no unfinished bar had more than 100 elements. Zones and fake strokes are answered there
+  pub sound-later : (r : FreshCalls) → (freshOf (r .minimum) (r .most) (r .rooms)) .refused ≡ 0 → storesSized (begun r) (r .lent) ≡ true
+      → T (eachLater none (acceptedOf (r .calls))) → question4 (r .stand) (r .stores) ≡ true
+  pub sound-shallow : (r : FreshCalls) → (freshOf (r .minimum) (r .most) (r .rooms)) .refused ≡ 0 → storesSized (begun r) (r .lent) ≡ true
+      → Shallow (settingsOf (begun r)) fresh (r .bars) → question4 (r .stand) (r .stores) ≡ true
   -- the plain machine searches by place and the Rust by time: with rising times both find the same stroke and leave the same bars
   pub by-time : SearchByTime
   -- and on every list of calls the times of the bars that are searched rise, and the kept strokes begin and end at the bars whose times the Rust compares

@@ -4,3 +4,4 @@ pub mod PlanInView
 pub mod MachineMoves
 pub mod MoveLaws
 pub mod WriteLaws
+pub mod SameLengths

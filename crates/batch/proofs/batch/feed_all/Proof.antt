@@ -1,16 +1,63 @@
-use Rattle.strokes.specs.Lent.{storesOf, fractalStore}
-use Rattle.stores.specs.Stores.{rawStore, mergedStore, rawBars}
+use mathlib.Core.Path.{_≡_}
+use Rattle.stores.specs.Stores.{RawStore, rawBars}
+use Rattle.stores.specs.Lent.{rawHeld}
+use Rattle.strokes.specs.Lent.{Stores, storesOf, held}
+use Rattle.batch.specs.Code.BatchSteps.{CanBatch}
 use Rattle.batch.proofs.BatchLoop.{batch-refused, batch-answered}
 use Rattle.batch.proofs.BatchSteps.{call-none, call-can, call-unsized, batch-lengths}
 use borrow.Author.Needs.{needs}
 use Rattle.batch.proofs.batch.feed_all.Statement.{statement}
 use Rattle.batch.proofs.batch.feed_all.Tie as tie
 
+-- ---- places in the code
+
+-- the beginning, seen from the fresh analyzer's answer
+abbrev start : tie.After-fresh → tie.Start
+start c = c .before .before .before
+
+-- the fresh analyzer was not refused, seen from where the bars are counted
+abbrev answered : tie.After-fewer2 → tie.Else1
+answered c = c .before .before
+
+abbrev fresh-of : tie.After-fewer2 → tie.After-fresh
+fresh-of c = answered c .before .before
+
+-- the bars are counted, and there are some, seen from the answer on the stores' lengths
+abbrev counted : tie.After-stores-sized → tie.After-fewer2
+counted c = c .before .before .before .before .before .before .before .before .before .before .before .before .before .before .before .before .before
+
+abbrev some-of : tie.After-stores-sized → tie.Else2
+some-of c = c .before .before .before .before .before .before .before .before .before .before .before .before .before .before .before .before
+
+-- the lengths are those recorded, seen from the call of feed_from, and from the end
+abbrev yes : tie.After-feed-from-arg15 → tie.Then3
+yes c = c .before .before .before .before .before .before .before .before .before .before .before .before .before .before .before
+
+abbrev fed : tie.After-fp → tie.After-feed-from
+fed c = c .before .before .before .before .before .before .before .before .before .before .before .before .before .before .before .before .before
+
+abbrev yes-fed : tie.After-fp → tie.Then3
+yes-fed c = yes (fed c .before)
+
+-- the stores that are lent
+abbrev lent : tie.Start → Stores
+lent s = let a = s .args in held (a .rt) (a .ri) (a .rp) (a .ut) (a .ui) (a .up) (a .uc) (a .ue) (a .st) (a .si) (a .sp) (a .sc) (a .se) (a .fs) (a .fp)
+
+-- the bars that are to be fed
+abbrev to-feed : tie.Start → RawStore
+to-feed s = let a = s .args in rawHeld (a .bt) (a .bi) (a .bp)
+
+-- ---- refused, and no bars
+
 fresh-requires : tie.Need-fresh-requires
 fresh-requires c κs = search needs
 
 returns : tie.Need-returns
-returns c = let x = c .before .before .before .before .before .args in batch-refused (x .minimum) (x .most) (x .rooms) (storesOf (rawStore (x .rt .now) (x .ri .now) (x .rp .now)) (mergedStore (x .ut .now) (x .ui .now) (x .up .now) (x .uc .now) (x .ue .now)) (mergedStore (x .st .now) (x .si .now) (x .sp .now) (x .sc .now) (x .se .now)) (fractalStore (x .fs .now) (x .fp .now))) (rawBars (rawStore (x .bt .now) (x .bi .now) (x .bp .now))) (c .before .before .fresh .result) (c .before .before .fresh .ensures) (c .if1 .taken)
+returns c =
+    let o = c .before .before in
+    let s = start o in
+    let x = s .args in
+    batch-refused (x .minimum) (x .most) (x .rooms) (lent s) (rawBars (to-feed s)) (o .fresh .result) (o .fresh .ensures) (c .if1 .taken)
 
 fewer-requires : tie.Need-fewer-requires
 fewer-requires c κs = search needs
@@ -19,76 +66,100 @@ fewer-requires-2 : tie.Need-fewer-requires-2
 fewer-requires-2 c κs = search needs
 
 returns-2 : tie.Need-returns-2
-returns-2 c = let x = c .before .before .before .before .before .before .before .before .args in call-none (x .minimum) (x .most) (x .rooms) (storesOf (rawStore (x .rt .now) (x .ri .now) (x .rp .now)) (mergedStore (x .ut .now) (x .ui .now) (x .up .now) (x .uc .now) (x .ue .now)) (mergedStore (x .st .now) (x .si .now) (x .sp .now) (x .sc .now) (x .se .now)) (fractalStore (x .fs .now) (x .fp .now))) (rawStore (x .bt .now) (x .bi .now) (x .bp .now)) (c .before .before .before .before .before .fresh .result) (c .before .before .fewer .result) (c .before .fewer2 .result) (c .before .before .before .before .before .fresh .ensures) (c .before .before .before .if1 .left) (c .before .before .fewer .ensures) (c .before .fewer2 .ensures) (c .if2 .taken)
+returns-2 c =
+    let o = c .before in
+    let f = fresh-of o in
+    let s = start f in
+    let x = s .args in
+    let n = o .before .fewer in
+    call-none (x .minimum) (x .most) (x .rooms) (lent s) (to-feed s) (f .fresh .result) (n .result) (o .fewer2 .result) (f .fresh .ensures) (answered o .if1 .left) (n .ensures) (o .fewer2 .ensures) (c .if2 .taken)
+
+-- ---- stores of the recorded lengths
 
 stores-sized-requires : tie.Need-stores-sized-requires
 stores-sized-requires c κs = search needs
 
+can-at : (c : tie.Then3) → CanBatch (fresh-of (counted (c .before)) .fresh .result .stand) (lent (start (fresh-of (counted (c .before))))) (to-feed (start (fresh-of (counted (c .before))))) (counted (c .before) .fewer2 .result)
+can-at c =
+    let o = counted (c .before) in
+    let f = fresh-of o in
+    let s = start f in
+    let x = s .args in
+    let n = o .before .fewer in
+    call-can (x .minimum) (x .most) (x .rooms) (lent s) (to-feed s) (f .fresh .result) (n .result) (o .fewer2 .result) (f .fresh .ensures) (answered o .if1 .left) (n .ensures) (o .fewer2 .ensures) _ (c .before .stores-sized .ensures) (c .if3 .taken)
+
 feed-from-requires : tie.Need-feed-from-requires
-feed-from-requires c κs = let x = c .before .before .before .before .before .before .before .before .before .before .before .before .before .before .before .before .before .before .before .before .before .before .before .before .before .before .before .before .before .before .before .before .before .before .before .before .before .before .before .before .args in call-can (x .minimum) (x .most) (x .rooms) (storesOf (rawStore (x .rt .now) (x .ri .now) (x .rp .now)) (mergedStore (x .ut .now) (x .ui .now) (x .up .now) (x .uc .now) (x .ue .now)) (mergedStore (x .st .now) (x .si .now) (x .sp .now) (x .sc .now) (x .se .now)) (fractalStore (x .fs .now) (x .fp .now))) (rawStore (x .bt .now) (x .bi .now) (x .bp .now)) (c .before .before .before .before .before .before .before .before .before .before .before .before .before .before .before .before .before .before .before .before .before .before .before .before .before .before .before .before .before .before .before .before .before .before .before .before .before .fresh .result) (c .before .before .before .before .before .before .before .before .before .before .before .before .before .before .before .before .before .before .before .before .before .before .before .before .before .before .before .before .before .before .before .before .before .before .fewer .result) (c .before .before .before .before .before .before .before .before .before .before .before .before .before .before .before .before .before .before .before .before .before .before .before .before .before .before .before .before .before .before .before .before .before .fewer2 .result) (c .before .before .before .before .before .before .before .before .before .before .before .before .before .before .before .before .before .before .before .before .before .before .before .before .before .before .before .before .before .before .before .before .before .before .before .before .before .fresh .ensures) (c .before .before .before .before .before .before .before .before .before .before .before .before .before .before .before .before .before .before .before .before .before .before .before .before .before .before .before .before .before .before .before .before .before .before .before .if1 .left) (c .before .before .before .before .before .before .before .before .before .before .before .before .before .before .before .before .before .before .before .before .before .before .before .before .before .before .before .before .before .before .before .before .before .before .fewer .ensures) (c .before .before .before .before .before .before .before .before .before .before .before .before .before .before .before .before .before .before .before .before .before .before .before .before .before .before .before .before .before .before .before .before .before .fewer2 .ensures) _ (c .before .before .before .before .before .before .before .before .before .before .before .before .before .before .before .before .stores-sized .ensures) (c .before .before .before .before .before .before .before .before .before .before .before .before .before .before .before .if3 .taken)
+feed-from-requires c κs = can-at (yes c)
 
 same-length : tie.Need-same-length
 unfolding storesOf
-same-length c = let x = c .before .before .before .before .before .before .before .before .before .before .before .before .before .before .before .before .before .before .before .before .before .before .before .before .before .before .before .before .before .before .before .before .before .before .before .before .before .before .before .before .before .before .before .before .before .before .before .before .before .before .before .before .before .before .before .before .before .before .args in (batch-lengths (call-can (x .minimum) (x .most) (x .rooms) (storesOf (rawStore (x .rt .now) (x .ri .now) (x .rp .now)) (mergedStore (x .ut .now) (x .ui .now) (x .up .now) (x .uc .now) (x .ue .now)) (mergedStore (x .st .now) (x .si .now) (x .sp .now) (x .sc .now) (x .se .now)) (fractalStore (x .fs .now) (x .fp .now))) (rawStore (x .bt .now) (x .bi .now) (x .bp .now)) (c .before .before .before .before .before .before .before .before .before .before .before .before .before .before .before .before .before .before .before .before .before .before .before .before .before .before .before .before .before .before .before .before .before .before .before .before .before .before .before .before .before .before .before .before .before .before .before .before .before .before .before .before .before .before .before .fresh .result) (c .before .before .before .before .before .before .before .before .before .before .before .before .before .before .before .before .before .before .before .before .before .before .before .before .before .before .before .before .before .before .before .before .before .before .before .before .before .before .before .before .before .before .before .before .before .before .before .before .before .before .before .before .fewer .result) (c .before .before .before .before .before .before .before .before .before .before .before .before .before .before .before .before .before .before .before .before .before .before .before .before .before .before .before .before .before .before .before .before .before .before .before .before .before .before .before .before .before .before .before .before .before .before .before .before .before .before .before .fewer2 .result) (c .before .before .before .before .before .before .before .before .before .before .before .before .before .before .before .before .before .before .before .before .before .before .before .before .before .before .before .before .before .before .before .before .before .before .before .before .before .before .before .before .before .before .before .before .before .before .before .before .before .before .before .before .before .before .before .fresh .ensures) (c .before .before .before .before .before .before .before .before .before .before .before .before .before .before .before .before .before .before .before .before .before .before .before .before .before .before .before .before .before .before .before .before .before .before .before .before .before .before .before .before .before .before .before .before .before .before .before .before .before .before .before .before .before .if1 .left) (c .before .before .before .before .before .before .before .before .before .before .before .before .before .before .before .before .before .before .before .before .before .before .before .before .before .before .before .before .before .before .before .before .before .before .before .before .before .before .before .before .before .before .before .before .before .before .before .before .before .before .before .before .fewer .ensures) (c .before .before .before .before .before .before .before .before .before .before .before .before .before .before .before .before .before .before .before .before .before .before .before .before .before .before .before .before .before .before .before .before .before .before .before .before .before .before .before .before .before .before .before .before .before .before .before .before .before .before .before .fewer2 .ensures) _ (c .before .before .before .before .before .before .before .before .before .before .before .before .before .before .before .before .before .before .before .before .before .before .before .before .before .before .before .before .before .before .before .before .before .before .stores-sized .ensures) (c .before .before .before .before .before .before .before .before .before .before .before .before .before .before .before .before .before .before .before .before .before .before .before .before .before .before .before .before .before .before .before .before .before .if3 .taken)) (c .before .before .before .before .before .before .before .before .before .before .before .before .before .before .before .before .before .feed-from .ensures)) .rt
+same-length c = (batch-lengths (can-at (yes-fed c)) (fed c .feed-from .ensures)) .rt
 
 same-length-2 : tie.Need-same-length-2
 unfolding storesOf
-same-length-2 c = let x = c .before .before .before .before .before .before .before .before .before .before .before .before .before .before .before .before .before .before .before .before .before .before .before .before .before .before .before .before .before .before .before .before .before .before .before .before .before .before .before .before .before .before .before .before .before .before .before .before .before .before .before .before .before .before .before .before .before .before .args in (batch-lengths (call-can (x .minimum) (x .most) (x .rooms) (storesOf (rawStore (x .rt .now) (x .ri .now) (x .rp .now)) (mergedStore (x .ut .now) (x .ui .now) (x .up .now) (x .uc .now) (x .ue .now)) (mergedStore (x .st .now) (x .si .now) (x .sp .now) (x .sc .now) (x .se .now)) (fractalStore (x .fs .now) (x .fp .now))) (rawStore (x .bt .now) (x .bi .now) (x .bp .now)) (c .before .before .before .before .before .before .before .before .before .before .before .before .before .before .before .before .before .before .before .before .before .before .before .before .before .before .before .before .before .before .before .before .before .before .before .before .before .before .before .before .before .before .before .before .before .before .before .before .before .before .before .before .before .before .before .fresh .result) (c .before .before .before .before .before .before .before .before .before .before .before .before .before .before .before .before .before .before .before .before .before .before .before .before .before .before .before .before .before .before .before .before .before .before .before .before .before .before .before .before .before .before .before .before .before .before .before .before .before .before .before .before .fewer .result) (c .before .before .before .before .before .before .before .before .before .before .before .before .before .before .before .before .before .before .before .before .before .before .before .before .before .before .before .before .before .before .before .before .before .before .before .before .before .before .before .before .before .before .before .before .before .before .before .before .before .before .before .fewer2 .result) (c .before .before .before .before .before .before .before .before .before .before .before .before .before .before .before .before .before .before .before .before .before .before .before .before .before .before .before .before .before .before .before .before .before .before .before .before .before .before .before .before .before .before .before .before .before .before .before .before .before .before .before .before .before .before .before .fresh .ensures) (c .before .before .before .before .before .before .before .before .before .before .before .before .before .before .before .before .before .before .before .before .before .before .before .before .before .before .before .before .before .before .before .before .before .before .before .before .before .before .before .before .before .before .before .before .before .before .before .before .before .before .before .before .before .if1 .left) (c .before .before .before .before .before .before .before .before .before .before .before .before .before .before .before .before .before .before .before .before .before .before .before .before .before .before .before .before .before .before .before .before .before .before .before .before .before .before .before .before .before .before .before .before .before .before .before .before .before .before .before .before .fewer .ensures) (c .before .before .before .before .before .before .before .before .before .before .before .before .before .before .before .before .before .before .before .before .before .before .before .before .before .before .before .before .before .before .before .before .before .before .before .before .before .before .before .before .before .before .before .before .before .before .before .before .before .before .before .fewer2 .ensures) _ (c .before .before .before .before .before .before .before .before .before .before .before .before .before .before .before .before .before .before .before .before .before .before .before .before .before .before .before .before .before .before .before .before .before .before .stores-sized .ensures) (c .before .before .before .before .before .before .before .before .before .before .before .before .before .before .before .before .before .before .before .before .before .before .before .before .before .before .before .before .before .before .before .before .before .if3 .taken)) (c .before .before .before .before .before .before .before .before .before .before .before .before .before .before .before .before .before .feed-from .ensures)) .ri
+same-length-2 c = (batch-lengths (can-at (yes-fed c)) (fed c .feed-from .ensures)) .ri
 
 same-length-3 : tie.Need-same-length-3
 unfolding storesOf
-same-length-3 c = let x = c .before .before .before .before .before .before .before .before .before .before .before .before .before .before .before .before .before .before .before .before .before .before .before .before .before .before .before .before .before .before .before .before .before .before .before .before .before .before .before .before .before .before .before .before .before .before .before .before .before .before .before .before .before .before .before .before .before .before .args in (batch-lengths (call-can (x .minimum) (x .most) (x .rooms) (storesOf (rawStore (x .rt .now) (x .ri .now) (x .rp .now)) (mergedStore (x .ut .now) (x .ui .now) (x .up .now) (x .uc .now) (x .ue .now)) (mergedStore (x .st .now) (x .si .now) (x .sp .now) (x .sc .now) (x .se .now)) (fractalStore (x .fs .now) (x .fp .now))) (rawStore (x .bt .now) (x .bi .now) (x .bp .now)) (c .before .before .before .before .before .before .before .before .before .before .before .before .before .before .before .before .before .before .before .before .before .before .before .before .before .before .before .before .before .before .before .before .before .before .before .before .before .before .before .before .before .before .before .before .before .before .before .before .before .before .before .before .before .before .before .fresh .result) (c .before .before .before .before .before .before .before .before .before .before .before .before .before .before .before .before .before .before .before .before .before .before .before .before .before .before .before .before .before .before .before .before .before .before .before .before .before .before .before .before .before .before .before .before .before .before .before .before .before .before .before .before .fewer .result) (c .before .before .before .before .before .before .before .before .before .before .before .before .before .before .before .before .before .before .before .before .before .before .before .before .before .before .before .before .before .before .before .before .before .before .before .before .before .before .before .before .before .before .before .before .before .before .before .before .before .before .before .fewer2 .result) (c .before .before .before .before .before .before .before .before .before .before .before .before .before .before .before .before .before .before .before .before .before .before .before .before .before .before .before .before .before .before .before .before .before .before .before .before .before .before .before .before .before .before .before .before .before .before .before .before .before .before .before .before .before .before .before .fresh .ensures) (c .before .before .before .before .before .before .before .before .before .before .before .before .before .before .before .before .before .before .before .before .before .before .before .before .before .before .before .before .before .before .before .before .before .before .before .before .before .before .before .before .before .before .before .before .before .before .before .before .before .before .before .before .before .if1 .left) (c .before .before .before .before .before .before .before .before .before .before .before .before .before .before .before .before .before .before .before .before .before .before .before .before .before .before .before .before .before .before .before .before .before .before .before .before .before .before .before .before .before .before .before .before .before .before .before .before .before .before .before .before .fewer .ensures) (c .before .before .before .before .before .before .before .before .before .before .before .before .before .before .before .before .before .before .before .before .before .before .before .before .before .before .before .before .before .before .before .before .before .before .before .before .before .before .before .before .before .before .before .before .before .before .before .before .before .before .before .fewer2 .ensures) _ (c .before .before .before .before .before .before .before .before .before .before .before .before .before .before .before .before .before .before .before .before .before .before .before .before .before .before .before .before .before .before .before .before .before .before .stores-sized .ensures) (c .before .before .before .before .before .before .before .before .before .before .before .before .before .before .before .before .before .before .before .before .before .before .before .before .before .before .before .before .before .before .before .before .before .if3 .taken)) (c .before .before .before .before .before .before .before .before .before .before .before .before .before .before .before .before .before .feed-from .ensures)) .rp
+same-length-3 c = (batch-lengths (can-at (yes-fed c)) (fed c .feed-from .ensures)) .rp
 
 same-length-4 : tie.Need-same-length-4
 unfolding storesOf
-same-length-4 c = let x = c .before .before .before .before .before .before .before .before .before .before .before .before .before .before .before .before .before .before .before .before .before .before .before .before .before .before .before .before .before .before .before .before .before .before .before .before .before .before .before .before .before .before .before .before .before .before .before .before .before .before .before .before .before .before .before .before .before .before .args in (batch-lengths (call-can (x .minimum) (x .most) (x .rooms) (storesOf (rawStore (x .rt .now) (x .ri .now) (x .rp .now)) (mergedStore (x .ut .now) (x .ui .now) (x .up .now) (x .uc .now) (x .ue .now)) (mergedStore (x .st .now) (x .si .now) (x .sp .now) (x .sc .now) (x .se .now)) (fractalStore (x .fs .now) (x .fp .now))) (rawStore (x .bt .now) (x .bi .now) (x .bp .now)) (c .before .before .before .before .before .before .before .before .before .before .before .before .before .before .before .before .before .before .before .before .before .before .before .before .before .before .before .before .before .before .before .before .before .before .before .before .before .before .before .before .before .before .before .before .before .before .before .before .before .before .before .before .before .before .before .fresh .result) (c .before .before .before .before .before .before .before .before .before .before .before .before .before .before .before .before .before .before .before .before .before .before .before .before .before .before .before .before .before .before .before .before .before .before .before .before .before .before .before .before .before .before .before .before .before .before .before .before .before .before .before .before .fewer .result) (c .before .before .before .before .before .before .before .before .before .before .before .before .before .before .before .before .before .before .before .before .before .before .before .before .before .before .before .before .before .before .before .before .before .before .before .before .before .before .before .before .before .before .before .before .before .before .before .before .before .before .before .fewer2 .result) (c .before .before .before .before .before .before .before .before .before .before .before .before .before .before .before .before .before .before .before .before .before .before .before .before .before .before .before .before .before .before .before .before .before .before .before .before .before .before .before .before .before .before .before .before .before .before .before .before .before .before .before .before .before .before .before .fresh .ensures) (c .before .before .before .before .before .before .before .before .before .before .before .before .before .before .before .before .before .before .before .before .before .before .before .before .before .before .before .before .before .before .before .before .before .before .before .before .before .before .before .before .before .before .before .before .before .before .before .before .before .before .before .before .before .if1 .left) (c .before .before .before .before .before .before .before .before .before .before .before .before .before .before .before .before .before .before .before .before .before .before .before .before .before .before .before .before .before .before .before .before .before .before .before .before .before .before .before .before .before .before .before .before .before .before .before .before .before .before .before .before .fewer .ensures) (c .before .before .before .before .before .before .before .before .before .before .before .before .before .before .before .before .before .before .before .before .before .before .before .before .before .before .before .before .before .before .before .before .before .before .before .before .before .before .before .before .before .before .before .before .before .before .before .before .before .before .before .fewer2 .ensures) _ (c .before .before .before .before .before .before .before .before .before .before .before .before .before .before .before .before .before .before .before .before .before .before .before .before .before .before .before .before .before .before .before .before .before .before .stores-sized .ensures) (c .before .before .before .before .before .before .before .before .before .before .before .before .before .before .before .before .before .before .before .before .before .before .before .before .before .before .before .before .before .before .before .before .before .if3 .taken)) (c .before .before .before .before .before .before .before .before .before .before .before .before .before .before .before .before .before .feed-from .ensures)) .ut
+same-length-4 c = (batch-lengths (can-at (yes-fed c)) (fed c .feed-from .ensures)) .ut
 
 same-length-5 : tie.Need-same-length-5
 unfolding storesOf
-same-length-5 c = let x = c .before .before .before .before .before .before .before .before .before .before .before .before .before .before .before .before .before .before .before .before .before .before .before .before .before .before .before .before .before .before .before .before .before .before .before .before .before .before .before .before .before .before .before .before .before .before .before .before .before .before .before .before .before .before .before .before .before .before .args in (batch-lengths (call-can (x .minimum) (x .most) (x .rooms) (storesOf (rawStore (x .rt .now) (x .ri .now) (x .rp .now)) (mergedStore (x .ut .now) (x .ui .now) (x .up .now) (x .uc .now) (x .ue .now)) (mergedStore (x .st .now) (x .si .now) (x .sp .now) (x .sc .now) (x .se .now)) (fractalStore (x .fs .now) (x .fp .now))) (rawStore (x .bt .now) (x .bi .now) (x .bp .now)) (c .before .before .before .before .before .before .before .before .before .before .before .before .before .before .before .before .before .before .before .before .before .before .before .before .before .before .before .before .before .before .before .before .before .before .before .before .before .before .before .before .before .before .before .before .before .before .before .before .before .before .before .before .before .before .before .fresh .result) (c .before .before .before .before .before .before .before .before .before .before .before .before .before .before .before .before .before .before .before .before .before .before .before .before .before .before .before .before .before .before .before .before .before .before .before .before .before .before .before .before .before .before .before .before .before .before .before .before .before .before .before .before .fewer .result) (c .before .before .before .before .before .before .before .before .before .before .before .before .before .before .before .before .before .before .before .before .before .before .before .before .before .before .before .before .before .before .before .before .before .before .before .before .before .before .before .before .before .before .before .before .before .before .before .before .before .before .before .fewer2 .result) (c .before .before .before .before .before .before .before .before .before .before .before .before .before .before .before .before .before .before .before .before .before .before .before .before .before .before .before .before .before .before .before .before .before .before .before .before .before .before .before .before .before .before .before .before .before .before .before .before .before .before .before .before .before .before .before .fresh .ensures) (c .before .before .before .before .before .before .before .before .before .before .before .before .before .before .before .before .before .before .before .before .before .before .before .before .before .before .before .before .before .before .before .before .before .before .before .before .before .before .before .before .before .before .before .before .before .before .before .before .before .before .before .before .before .if1 .left) (c .before .before .before .before .before .before .before .before .before .before .before .before .before .before .before .before .before .before .before .before .before .before .before .before .before .before .before .before .before .before .before .before .before .before .before .before .before .before .before .before .before .before .before .before .before .before .before .before .before .before .before .before .fewer .ensures) (c .before .before .before .before .before .before .before .before .before .before .before .before .before .before .before .before .before .before .before .before .before .before .before .before .before .before .before .before .before .before .before .before .before .before .before .before .before .before .before .before .before .before .before .before .before .before .before .before .before .before .before .fewer2 .ensures) _ (c .before .before .before .before .before .before .before .before .before .before .before .before .before .before .before .before .before .before .before .before .before .before .before .before .before .before .before .before .before .before .before .before .before .before .stores-sized .ensures) (c .before .before .before .before .before .before .before .before .before .before .before .before .before .before .before .before .before .before .before .before .before .before .before .before .before .before .before .before .before .before .before .before .before .if3 .taken)) (c .before .before .before .before .before .before .before .before .before .before .before .before .before .before .before .before .before .feed-from .ensures)) .ui
+same-length-5 c = (batch-lengths (can-at (yes-fed c)) (fed c .feed-from .ensures)) .ui
 
 same-length-6 : tie.Need-same-length-6
 unfolding storesOf
-same-length-6 c = let x = c .before .before .before .before .before .before .before .before .before .before .before .before .before .before .before .before .before .before .before .before .before .before .before .before .before .before .before .before .before .before .before .before .before .before .before .before .before .before .before .before .before .before .before .before .before .before .before .before .before .before .before .before .before .before .before .before .before .before .args in (batch-lengths (call-can (x .minimum) (x .most) (x .rooms) (storesOf (rawStore (x .rt .now) (x .ri .now) (x .rp .now)) (mergedStore (x .ut .now) (x .ui .now) (x .up .now) (x .uc .now) (x .ue .now)) (mergedStore (x .st .now) (x .si .now) (x .sp .now) (x .sc .now) (x .se .now)) (fractalStore (x .fs .now) (x .fp .now))) (rawStore (x .bt .now) (x .bi .now) (x .bp .now)) (c .before .before .before .before .before .before .before .before .before .before .before .before .before .before .before .before .before .before .before .before .before .before .before .before .before .before .before .before .before .before .before .before .before .before .before .before .before .before .before .before .before .before .before .before .before .before .before .before .before .before .before .before .before .before .before .fresh .result) (c .before .before .before .before .before .before .before .before .before .before .before .before .before .before .before .before .before .before .before .before .before .before .before .before .before .before .before .before .before .before .before .before .before .before .before .before .before .before .before .before .before .before .before .before .before .before .before .before .before .before .before .before .fewer .result) (c .before .before .before .before .before .before .before .before .before .before .before .before .before .before .before .before .before .before .before .before .before .before .before .before .before .before .before .before .before .before .before .before .before .before .before .before .before .before .before .before .before .before .before .before .before .before .before .before .before .before .before .fewer2 .result) (c .before .before .before .before .before .before .before .before .before .before .before .before .before .before .before .before .before .before .before .before .before .before .before .before .before .before .before .before .before .before .before .before .before .before .before .before .before .before .before .before .before .before .before .before .before .before .before .before .before .before .before .before .before .before .before .fresh .ensures) (c .before .before .before .before .before .before .before .before .before .before .before .before .before .before .before .before .before .before .before .before .before .before .before .before .before .before .before .before .before .before .before .before .before .before .before .before .before .before .before .before .before .before .before .before .before .before .before .before .before .before .before .before .before .if1 .left) (c .before .before .before .before .before .before .before .before .before .before .before .before .before .before .before .before .before .before .before .before .before .before .before .before .before .before .before .before .before .before .before .before .before .before .before .before .before .before .before .before .before .before .before .before .before .before .before .before .before .before .before .before .fewer .ensures) (c .before .before .before .before .before .before .before .before .before .before .before .before .before .before .before .before .before .before .before .before .before .before .before .before .before .before .before .before .before .before .before .before .before .before .before .before .before .before .before .before .before .before .before .before .before .before .before .before .before .before .before .fewer2 .ensures) _ (c .before .before .before .before .before .before .before .before .before .before .before .before .before .before .before .before .before .before .before .before .before .before .before .before .before .before .before .before .before .before .before .before .before .before .stores-sized .ensures) (c .before .before .before .before .before .before .before .before .before .before .before .before .before .before .before .before .before .before .before .before .before .before .before .before .before .before .before .before .before .before .before .before .before .if3 .taken)) (c .before .before .before .before .before .before .before .before .before .before .before .before .before .before .before .before .before .feed-from .ensures)) .up
+same-length-6 c = (batch-lengths (can-at (yes-fed c)) (fed c .feed-from .ensures)) .up
 
 same-length-7 : tie.Need-same-length-7
 unfolding storesOf
-same-length-7 c = let x = c .before .before .before .before .before .before .before .before .before .before .before .before .before .before .before .before .before .before .before .before .before .before .before .before .before .before .before .before .before .before .before .before .before .before .before .before .before .before .before .before .before .before .before .before .before .before .before .before .before .before .before .before .before .before .before .before .before .before .args in (batch-lengths (call-can (x .minimum) (x .most) (x .rooms) (storesOf (rawStore (x .rt .now) (x .ri .now) (x .rp .now)) (mergedStore (x .ut .now) (x .ui .now) (x .up .now) (x .uc .now) (x .ue .now)) (mergedStore (x .st .now) (x .si .now) (x .sp .now) (x .sc .now) (x .se .now)) (fractalStore (x .fs .now) (x .fp .now))) (rawStore (x .bt .now) (x .bi .now) (x .bp .now)) (c .before .before .before .before .before .before .before .before .before .before .before .before .before .before .before .before .before .before .before .before .before .before .before .before .before .before .before .before .before .before .before .before .before .before .before .before .before .before .before .before .before .before .before .before .before .before .before .before .before .before .before .before .before .before .before .fresh .result) (c .before .before .before .before .before .before .before .before .before .before .before .before .before .before .before .before .before .before .before .before .before .before .before .before .before .before .before .before .before .before .before .before .before .before .before .before .before .before .before .before .before .before .before .before .before .before .before .before .before .before .before .before .fewer .result) (c .before .before .before .before .before .before .before .before .before .before .before .before .before .before .before .before .before .before .before .before .before .before .before .before .before .before .before .before .before .before .before .before .before .before .before .before .before .before .before .before .before .before .before .before .before .before .before .before .before .before .before .fewer2 .result) (c .before .before .before .before .before .before .before .before .before .before .before .before .before .before .before .before .before .before .before .before .before .before .before .before .before .before .before .before .before .before .before .before .before .before .before .before .before .before .before .before .before .before .before .before .before .before .before .before .before .before .before .before .before .before .before .fresh .ensures) (c .before .before .before .before .before .before .before .before .before .before .before .before .before .before .before .before .before .before .before .before .before .before .before .before .before .before .before .before .before .before .before .before .before .before .before .before .before .before .before .before .before .before .before .before .before .before .before .before .before .before .before .before .before .if1 .left) (c .before .before .before .before .before .before .before .before .before .before .before .before .before .before .before .before .before .before .before .before .before .before .before .before .before .before .before .before .before .before .before .before .before .before .before .before .before .before .before .before .before .before .before .before .before .before .before .before .before .before .before .before .fewer .ensures) (c .before .before .before .before .before .before .before .before .before .before .before .before .before .before .before .before .before .before .before .before .before .before .before .before .before .before .before .before .before .before .before .before .before .before .before .before .before .before .before .before .before .before .before .before .before .before .before .before .before .before .before .fewer2 .ensures) _ (c .before .before .before .before .before .before .before .before .before .before .before .before .before .before .before .before .before .before .before .before .before .before .before .before .before .before .before .before .before .before .before .before .before .before .stores-sized .ensures) (c .before .before .before .before .before .before .before .before .before .before .before .before .before .before .before .before .before .before .before .before .before .before .before .before .before .before .before .before .before .before .before .before .before .if3 .taken)) (c .before .before .before .before .before .before .before .before .before .before .before .before .before .before .before .before .before .feed-from .ensures)) .uc
+same-length-7 c = (batch-lengths (can-at (yes-fed c)) (fed c .feed-from .ensures)) .uc
 
 same-length-8 : tie.Need-same-length-8
 unfolding storesOf
-same-length-8 c = let x = c .before .before .before .before .before .before .before .before .before .before .before .before .before .before .before .before .before .before .before .before .before .before .before .before .before .before .before .before .before .before .before .before .before .before .before .before .before .before .before .before .before .before .before .before .before .before .before .before .before .before .before .before .before .before .before .before .before .before .args in (batch-lengths (call-can (x .minimum) (x .most) (x .rooms) (storesOf (rawStore (x .rt .now) (x .ri .now) (x .rp .now)) (mergedStore (x .ut .now) (x .ui .now) (x .up .now) (x .uc .now) (x .ue .now)) (mergedStore (x .st .now) (x .si .now) (x .sp .now) (x .sc .now) (x .se .now)) (fractalStore (x .fs .now) (x .fp .now))) (rawStore (x .bt .now) (x .bi .now) (x .bp .now)) (c .before .before .before .before .before .before .before .before .before .before .before .before .before .before .before .before .before .before .before .before .before .before .before .before .before .before .before .before .before .before .before .before .before .before .before .before .before .before .before .before .before .before .before .before .before .before .before .before .before .before .before .before .before .before .before .fresh .result) (c .before .before .before .before .before .before .before .before .before .before .before .before .before .before .before .before .before .before .before .before .before .before .before .before .before .before .before .before .before .before .before .before .before .before .before .before .before .before .before .before .before .before .before .before .before .before .before .before .before .before .before .before .fewer .result) (c .before .before .before .before .before .before .before .before .before .before .before .before .before .before .before .before .before .before .before .before .before .before .before .before .before .before .before .before .before .before .before .before .before .before .before .before .before .before .before .before .before .before .before .before .before .before .before .before .before .before .before .fewer2 .result) (c .before .before .before .before .before .before .before .before .before .before .before .before .before .before .before .before .before .before .before .before .before .before .before .before .before .before .before .before .before .before .before .before .before .before .before .before .before .before .before .before .before .before .before .before .before .before .before .before .before .before .before .before .before .before .before .fresh .ensures) (c .before .before .before .before .before .before .before .before .before .before .before .before .before .before .before .before .before .before .before .before .before .before .before .before .before .before .before .before .before .before .before .before .before .before .before .before .before .before .before .before .before .before .before .before .before .before .before .before .before .before .before .before .before .if1 .left) (c .before .before .before .before .before .before .before .before .before .before .before .before .before .before .before .before .before .before .before .before .before .before .before .before .before .before .before .before .before .before .before .before .before .before .before .before .before .before .before .before .before .before .before .before .before .before .before .before .before .before .before .before .fewer .ensures) (c .before .before .before .before .before .before .before .before .before .before .before .before .before .before .before .before .before .before .before .before .before .before .before .before .before .before .before .before .before .before .before .before .before .before .before .before .before .before .before .before .before .before .before .before .before .before .before .before .before .before .before .fewer2 .ensures) _ (c .before .before .before .before .before .before .before .before .before .before .before .before .before .before .before .before .before .before .before .before .before .before .before .before .before .before .before .before .before .before .before .before .before .before .stores-sized .ensures) (c .before .before .before .before .before .before .before .before .before .before .before .before .before .before .before .before .before .before .before .before .before .before .before .before .before .before .before .before .before .before .before .before .before .if3 .taken)) (c .before .before .before .before .before .before .before .before .before .before .before .before .before .before .before .before .before .feed-from .ensures)) .ue
+same-length-8 c = (batch-lengths (can-at (yes-fed c)) (fed c .feed-from .ensures)) .ue
 
 same-length-9 : tie.Need-same-length-9
 unfolding storesOf
-same-length-9 c = let x = c .before .before .before .before .before .before .before .before .before .before .before .before .before .before .before .before .before .before .before .before .before .before .before .before .before .before .before .before .before .before .before .before .before .before .before .before .before .before .before .before .before .before .before .before .before .before .before .before .before .before .before .before .before .before .before .before .before .before .args in (batch-lengths (call-can (x .minimum) (x .most) (x .rooms) (storesOf (rawStore (x .rt .now) (x .ri .now) (x .rp .now)) (mergedStore (x .ut .now) (x .ui .now) (x .up .now) (x .uc .now) (x .ue .now)) (mergedStore (x .st .now) (x .si .now) (x .sp .now) (x .sc .now) (x .se .now)) (fractalStore (x .fs .now) (x .fp .now))) (rawStore (x .bt .now) (x .bi .now) (x .bp .now)) (c .before .before .before .before .before .before .before .before .before .before .before .before .before .before .before .before .before .before .before .before .before .before .before .before .before .before .before .before .before .before .before .before .before .before .before .before .before .before .before .before .before .before .before .before .before .before .before .before .before .before .before .before .before .before .before .fresh .result) (c .before .before .before .before .before .before .before .before .before .before .before .before .before .before .before .before .before .before .before .before .before .before .before .before .before .before .before .before .before .before .before .before .before .before .before .before .before .before .before .before .before .before .before .before .before .before .before .before .before .before .before .before .fewer .result) (c .before .before .before .before .before .before .before .before .before .before .before .before .before .before .before .before .before .before .before .before .before .before .before .before .before .before .before .before .before .before .before .before .before .before .before .before .before .before .before .before .before .before .before .before .before .before .before .before .before .before .before .fewer2 .result) (c .before .before .before .before .before .before .before .before .before .before .before .before .before .before .before .before .before .before .before .before .before .before .before .before .before .before .before .before .before .before .before .before .before .before .before .before .before .before .before .before .before .before .before .before .before .before .before .before .before .before .before .before .before .before .before .fresh .ensures) (c .before .before .before .before .before .before .before .before .before .before .before .before .before .before .before .before .before .before .before .before .before .before .before .before .before .before .before .before .before .before .before .before .before .before .before .before .before .before .before .before .before .before .before .before .before .before .before .before .before .before .before .before .before .if1 .left) (c .before .before .before .before .before .before .before .before .before .before .before .before .before .before .before .before .before .before .before .before .before .before .before .before .before .before .before .before .before .before .before .before .before .before .before .before .before .before .before .before .before .before .before .before .before .before .before .before .before .before .before .before .fewer .ensures) (c .before .before .before .before .before .before .before .before .before .before .before .before .before .before .before .before .before .before .before .before .before .before .before .before .before .before .before .before .before .before .before .before .before .before .before .before .before .before .before .before .before .before .before .before .before .before .before .before .before .before .before .fewer2 .ensures) _ (c .before .before .before .before .before .before .before .before .before .before .before .before .before .before .before .before .before .before .before .before .before .before .before .before .before .before .before .before .before .before .before .before .before .before .stores-sized .ensures) (c .before .before .before .before .before .before .before .before .before .before .before .before .before .before .before .before .before .before .before .before .before .before .before .before .before .before .before .before .before .before .before .before .before .if3 .taken)) (c .before .before .before .before .before .before .before .before .before .before .before .before .before .before .before .before .before .feed-from .ensures)) .st
+same-length-9 c = (batch-lengths (can-at (yes-fed c)) (fed c .feed-from .ensures)) .st
 
 same-length-10 : tie.Need-same-length-10
 unfolding storesOf
-same-length-10 c = let x = c .before .before .before .before .before .before .before .before .before .before .before .before .before .before .before .before .before .before .before .before .before .before .before .before .before .before .before .before .before .before .before .before .before .before .before .before .before .before .before .before .before .before .before .before .before .before .before .before .before .before .before .before .before .before .before .before .before .before .args in (batch-lengths (call-can (x .minimum) (x .most) (x .rooms) (storesOf (rawStore (x .rt .now) (x .ri .now) (x .rp .now)) (mergedStore (x .ut .now) (x .ui .now) (x .up .now) (x .uc .now) (x .ue .now)) (mergedStore (x .st .now) (x .si .now) (x .sp .now) (x .sc .now) (x .se .now)) (fractalStore (x .fs .now) (x .fp .now))) (rawStore (x .bt .now) (x .bi .now) (x .bp .now)) (c .before .before .before .before .before .before .before .before .before .before .before .before .before .before .before .before .before .before .before .before .before .before .before .before .before .before .before .before .before .before .before .before .before .before .before .before .before .before .before .before .before .before .before .before .before .before .before .before .before .before .before .before .before .before .before .fresh .result) (c .before .before .before .before .before .before .before .before .before .before .before .before .before .before .before .before .before .before .before .before .before .before .before .before .before .before .before .before .before .before .before .before .before .before .before .before .before .before .before .before .before .before .before .before .before .before .before .before .before .before .before .before .fewer .result) (c .before .before .before .before .before .before .before .before .before .before .before .before .before .before .before .before .before .before .before .before .before .before .before .before .before .before .before .before .before .before .before .before .before .before .before .before .before .before .before .before .before .before .before .before .before .before .before .before .before .before .before .fewer2 .result) (c .before .before .before .before .before .before .before .before .before .before .before .before .before .before .before .before .before .before .before .before .before .before .before .before .before .before .before .before .before .before .before .before .before .before .before .before .before .before .before .before .before .before .before .before .before .before .before .before .before .before .before .before .before .before .before .fresh .ensures) (c .before .before .before .before .before .before .before .before .before .before .before .before .before .before .before .before .before .before .before .before .before .before .before .before .before .before .before .before .before .before .before .before .before .before .before .before .before .before .before .before .before .before .before .before .before .before .before .before .before .before .before .before .before .if1 .left) (c .before .before .before .before .before .before .before .before .before .before .before .before .before .before .before .before .before .before .before .before .before .before .before .before .before .before .before .before .before .before .before .before .before .before .before .before .before .before .before .before .before .before .before .before .before .before .before .before .before .before .before .before .fewer .ensures) (c .before .before .before .before .before .before .before .before .before .before .before .before .before .before .before .before .before .before .before .before .before .before .before .before .before .before .before .before .before .before .before .before .before .before .before .before .before .before .before .before .before .before .before .before .before .before .before .before .before .before .before .fewer2 .ensures) _ (c .before .before .before .before .before .before .before .before .before .before .before .before .before .before .before .before .before .before .before .before .before .before .before .before .before .before .before .before .before .before .before .before .before .before .stores-sized .ensures) (c .before .before .before .before .before .before .before .before .before .before .before .before .before .before .before .before .before .before .before .before .before .before .before .before .before .before .before .before .before .before .before .before .before .if3 .taken)) (c .before .before .before .before .before .before .before .before .before .before .before .before .before .before .before .before .before .feed-from .ensures)) .si
+same-length-10 c = (batch-lengths (can-at (yes-fed c)) (fed c .feed-from .ensures)) .si
 
 same-length-11 : tie.Need-same-length-11
 unfolding storesOf
-same-length-11 c = let x = c .before .before .before .before .before .before .before .before .before .before .before .before .before .before .before .before .before .before .before .before .before .before .before .before .before .before .before .before .before .before .before .before .before .before .before .before .before .before .before .before .before .before .before .before .before .before .before .before .before .before .before .before .before .before .before .before .before .before .args in (batch-lengths (call-can (x .minimum) (x .most) (x .rooms) (storesOf (rawStore (x .rt .now) (x .ri .now) (x .rp .now)) (mergedStore (x .ut .now) (x .ui .now) (x .up .now) (x .uc .now) (x .ue .now)) (mergedStore (x .st .now) (x .si .now) (x .sp .now) (x .sc .now) (x .se .now)) (fractalStore (x .fs .now) (x .fp .now))) (rawStore (x .bt .now) (x .bi .now) (x .bp .now)) (c .before .before .before .before .before .before .before .before .before .before .before .before .before .before .before .before .before .before .before .before .before .before .before .before .before .before .before .before .before .before .before .before .before .before .before .before .before .before .before .before .before .before .before .before .before .before .before .before .before .before .before .before .before .before .before .fresh .result) (c .before .before .before .before .before .before .before .before .before .before .before .before .before .before .before .before .before .before .before .before .before .before .before .before .before .before .before .before .before .before .before .before .before .before .before .before .before .before .before .before .before .before .before .before .before .before .before .before .before .before .before .before .fewer .result) (c .before .before .before .before .before .before .before .before .before .before .before .before .before .before .before .before .before .before .before .before .before .before .before .before .before .before .before .before .before .before .before .before .before .before .before .before .before .before .before .before .before .before .before .before .before .before .before .before .before .before .before .fewer2 .result) (c .before .before .before .before .before .before .before .before .before .before .before .before .before .before .before .before .before .before .before .before .before .before .before .before .before .before .before .before .before .before .before .before .before .before .before .before .before .before .before .before .before .before .before .before .before .before .before .before .before .before .before .before .before .before .before .fresh .ensures) (c .before .before .before .before .before .before .before .before .before .before .before .before .before .before .before .before .before .before .before .before .before .before .before .before .before .before .before .before .before .before .before .before .before .before .before .before .before .before .before .before .before .before .before .before .before .before .before .before .before .before .before .before .before .if1 .left) (c .before .before .before .before .before .before .before .before .before .before .before .before .before .before .before .before .before .before .before .before .before .before .before .before .before .before .before .before .before .before .before .before .before .before .before .before .before .before .before .before .before .before .before .before .before .before .before .before .before .before .before .before .fewer .ensures) (c .before .before .before .before .before .before .before .before .before .before .before .before .before .before .before .before .before .before .before .before .before .before .before .before .before .before .before .before .before .before .before .before .before .before .before .before .before .before .before .before .before .before .before .before .before .before .before .before .before .before .before .fewer2 .ensures) _ (c .before .before .before .before .before .before .before .before .before .before .before .before .before .before .before .before .before .before .before .before .before .before .before .before .before .before .before .before .before .before .before .before .before .before .stores-sized .ensures) (c .before .before .before .before .before .before .before .before .before .before .before .before .before .before .before .before .before .before .before .before .before .before .before .before .before .before .before .before .before .before .before .before .before .if3 .taken)) (c .before .before .before .before .before .before .before .before .before .before .before .before .before .before .before .before .before .feed-from .ensures)) .sp
+same-length-11 c = (batch-lengths (can-at (yes-fed c)) (fed c .feed-from .ensures)) .sp
 
 same-length-12 : tie.Need-same-length-12
 unfolding storesOf
-same-length-12 c = let x = c .before .before .before .before .before .before .before .before .before .before .before .before .before .before .before .before .before .before .before .before .before .before .before .before .before .before .before .before .before .before .before .before .before .before .before .before .before .before .before .before .before .before .before .before .before .before .before .before .before .before .before .before .before .before .before .before .before .before .args in (batch-lengths (call-can (x .minimum) (x .most) (x .rooms) (storesOf (rawStore (x .rt .now) (x .ri .now) (x .rp .now)) (mergedStore (x .ut .now) (x .ui .now) (x .up .now) (x .uc .now) (x .ue .now)) (mergedStore (x .st .now) (x .si .now) (x .sp .now) (x .sc .now) (x .se .now)) (fractalStore (x .fs .now) (x .fp .now))) (rawStore (x .bt .now) (x .bi .now) (x .bp .now)) (c .before .before .before .before .before .before .before .before .before .before .before .before .before .before .before .before .before .before .before .before .before .before .before .before .before .before .before .before .before .before .before .before .before .before .before .before .before .before .before .before .before .before .before .before .before .before .before .before .before .before .before .before .before .before .before .fresh .result) (c .before .before .before .before .before .before .before .before .before .before .before .before .before .before .before .before .before .before .before .before .before .before .before .before .before .before .before .before .before .before .before .before .before .before .before .before .before .before .before .before .before .before .before .before .before .before .before .before .before .before .before .before .fewer .result) (c .before .before .before .before .before .before .before .before .before .before .before .before .before .before .before .before .before .before .before .before .before .before .before .before .before .before .before .before .before .before .before .before .before .before .before .before .before .before .before .before .before .before .before .before .before .before .before .before .before .before .before .fewer2 .result) (c .before .before .before .before .before .before .before .before .before .before .before .before .before .before .before .before .before .before .before .before .before .before .before .before .before .before .before .before .before .before .before .before .before .before .before .before .before .before .before .before .before .before .before .before .before .before .before .before .before .before .before .before .before .before .before .fresh .ensures) (c .before .before .before .before .before .before .before .before .before .before .before .before .before .before .before .before .before .before .before .before .before .before .before .before .before .before .before .before .before .before .before .before .before .before .before .before .before .before .before .before .before .before .before .before .before .before .before .before .before .before .before .before .before .if1 .left) (c .before .before .before .before .before .before .before .before .before .before .before .before .before .before .before .before .before .before .before .before .before .before .before .before .before .before .before .before .before .before .before .before .before .before .before .before .before .before .before .before .before .before .before .before .before .before .before .before .before .before .before .before .fewer .ensures) (c .before .before .before .before .before .before .before .before .before .before .before .before .before .before .before .before .before .before .before .before .before .before .before .before .before .before .before .before .before .before .before .before .before .before .before .before .before .before .before .before .before .before .before .before .before .before .before .before .before .before .before .fewer2 .ensures) _ (c .before .before .before .before .before .before .before .before .before .before .before .before .before .before .before .before .before .before .before .before .before .before .before .before .before .before .before .before .before .before .before .before .before .before .stores-sized .ensures) (c .before .before .before .before .before .before .before .before .before .before .before .before .before .before .before .before .before .before .before .before .before .before .before .before .before .before .before .before .before .before .before .before .before .if3 .taken)) (c .before .before .before .before .before .before .before .before .before .before .before .before .before .before .before .before .before .feed-from .ensures)) .sc
+same-length-12 c = (batch-lengths (can-at (yes-fed c)) (fed c .feed-from .ensures)) .sc
 
 same-length-13 : tie.Need-same-length-13
 unfolding storesOf
-same-length-13 c = let x = c .before .before .before .before .before .before .before .before .before .before .before .before .before .before .before .before .before .before .before .before .before .before .before .before .before .before .before .before .before .before .before .before .before .before .before .before .before .before .before .before .before .before .before .before .before .before .before .before .before .before .before .before .before .before .before .before .before .before .args in (batch-lengths (call-can (x .minimum) (x .most) (x .rooms) (storesOf (rawStore (x .rt .now) (x .ri .now) (x .rp .now)) (mergedStore (x .ut .now) (x .ui .now) (x .up .now) (x .uc .now) (x .ue .now)) (mergedStore (x .st .now) (x .si .now) (x .sp .now) (x .sc .now) (x .se .now)) (fractalStore (x .fs .now) (x .fp .now))) (rawStore (x .bt .now) (x .bi .now) (x .bp .now)) (c .before .before .before .before .before .before .before .before .before .before .before .before .before .before .before .before .before .before .before .before .before .before .before .before .before .before .before .before .before .before .before .before .before .before .before .before .before .before .before .before .before .before .before .before .before .before .before .before .before .before .before .before .before .before .before .fresh .result) (c .before .before .before .before .before .before .before .before .before .before .before .before .before .before .before .before .before .before .before .before .before .before .before .before .before .before .before .before .before .before .before .before .before .before .before .before .before .before .before .before .before .before .before .before .before .before .before .before .before .before .before .before .fewer .result) (c .before .before .before .before .before .before .before .before .before .before .before .before .before .before .before .before .before .before .before .before .before .before .before .before .before .before .before .before .before .before .before .before .before .before .before .before .before .before .before .before .before .before .before .before .before .before .before .before .before .before .before .fewer2 .result) (c .before .before .before .before .before .before .before .before .before .before .before .before .before .before .before .before .before .before .before .before .before .before .before .before .before .before .before .before .before .before .before .before .before .before .before .before .before .before .before .before .before .before .before .before .before .before .before .before .before .before .before .before .before .before .before .fresh .ensures) (c .before .before .before .before .before .before .before .before .before .before .before .before .before .before .before .before .before .before .before .before .before .before .before .before .before .before .before .before .before .before .before .before .before .before .before .before .before .before .before .before .before .before .before .before .before .before .before .before .before .before .before .before .before .if1 .left) (c .before .before .before .before .before .before .before .before .before .before .before .before .before .before .before .before .before .before .before .before .before .before .before .before .before .before .before .before .before .before .before .before .before .before .before .before .before .before .before .before .before .before .before .before .before .before .before .before .before .before .before .before .fewer .ensures) (c .before .before .before .before .before .before .before .before .before .before .before .before .before .before .before .before .before .before .before .before .before .before .before .before .before .before .before .before .before .before .before .before .before .before .before .before .before .before .before .before .before .before .before .before .before .before .before .before .before .before .before .fewer2 .ensures) _ (c .before .before .before .before .before .before .before .before .before .before .before .before .before .before .before .before .before .before .before .before .before .before .before .before .before .before .before .before .before .before .before .before .before .before .stores-sized .ensures) (c .before .before .before .before .before .before .before .before .before .before .before .before .before .before .before .before .before .before .before .before .before .before .before .before .before .before .before .before .before .before .before .before .before .if3 .taken)) (c .before .before .before .before .before .before .before .before .before .before .before .before .before .before .before .before .before .feed-from .ensures)) .se
+same-length-13 c = (batch-lengths (can-at (yes-fed c)) (fed c .feed-from .ensures)) .se
 
 same-length-14 : tie.Need-same-length-14
 unfolding storesOf
-same-length-14 c = let x = c .before .before .before .before .before .before .before .before .before .before .before .before .before .before .before .before .before .before .before .before .before .before .before .before .before .before .before .before .before .before .before .before .before .before .before .before .before .before .before .before .before .before .before .before .before .before .before .before .before .before .before .before .before .before .before .before .before .before .args in (batch-lengths (call-can (x .minimum) (x .most) (x .rooms) (storesOf (rawStore (x .rt .now) (x .ri .now) (x .rp .now)) (mergedStore (x .ut .now) (x .ui .now) (x .up .now) (x .uc .now) (x .ue .now)) (mergedStore (x .st .now) (x .si .now) (x .sp .now) (x .sc .now) (x .se .now)) (fractalStore (x .fs .now) (x .fp .now))) (rawStore (x .bt .now) (x .bi .now) (x .bp .now)) (c .before .before .before .before .before .before .before .before .before .before .before .before .before .before .before .before .before .before .before .before .before .before .before .before .before .before .before .before .before .before .before .before .before .before .before .before .before .before .before .before .before .before .before .before .before .before .before .before .before .before .before .before .before .before .before .fresh .result) (c .before .before .before .before .before .before .before .before .before .before .before .before .before .before .before .before .before .before .before .before .before .before .before .before .before .before .before .before .before .before .before .before .before .before .before .before .before .before .before .before .before .before .before .before .before .before .before .before .before .before .before .before .fewer .result) (c .before .before .before .before .before .before .before .before .before .before .before .before .before .before .before .before .before .before .before .before .before .before .before .before .before .before .before .before .before .before .before .before .before .before .before .before .before .before .before .before .before .before .before .before .before .before .before .before .before .before .before .fewer2 .result) (c .before .before .before .before .before .before .before .before .before .before .before .before .before .before .before .before .before .before .before .before .before .before .before .before .before .before .before .before .before .before .before .before .before .before .before .before .before .before .before .before .before .before .before .before .before .before .before .before .before .before .before .before .before .before .before .fresh .ensures) (c .before .before .before .before .before .before .before .before .before .before .before .before .before .before .before .before .before .before .before .before .before .before .before .before .before .before .before .before .before .before .before .before .before .before .before .before .before .before .before .before .before .before .before .before .before .before .before .before .before .before .before .before .before .if1 .left) (c .before .before .before .before .before .before .before .before .before .before .before .before .before .before .before .before .before .before .before .before .before .before .before .before .before .before .before .before .before .before .before .before .before .before .before .before .before .before .before .before .before .before .before .before .before .before .before .before .before .before .before .before .fewer .ensures) (c .before .before .before .before .before .before .before .before .before .before .before .before .before .before .before .before .before .before .before .before .before .before .before .before .before .before .before .before .before .before .before .before .before .before .before .before .before .before .before .before .before .before .before .before .before .before .before .before .before .before .before .fewer2 .ensures) _ (c .before .before .before .before .before .before .before .before .before .before .before .before .before .before .before .before .before .before .before .before .before .before .before .before .before .before .before .before .before .before .before .before .before .before .stores-sized .ensures) (c .before .before .before .before .before .before .before .before .before .before .before .before .before .before .before .before .before .before .before .before .before .before .before .before .before .before .before .before .before .before .before .before .before .if3 .taken)) (c .before .before .before .before .before .before .before .before .before .before .before .before .before .before .before .before .before .feed-from .ensures)) .fs
+same-length-14 c = (batch-lengths (can-at (yes-fed c)) (fed c .feed-from .ensures)) .fs
 
 same-length-15 : tie.Need-same-length-15
 unfolding storesOf
-same-length-15 c = let x = c .before .before .before .before .before .before .before .before .before .before .before .before .before .before .before .before .before .before .before .before .before .before .before .before .before .before .before .before .before .before .before .before .before .before .before .before .before .before .before .before .before .before .before .before .before .before .before .before .before .before .before .before .before .before .before .before .before .before .args in (batch-lengths (call-can (x .minimum) (x .most) (x .rooms) (storesOf (rawStore (x .rt .now) (x .ri .now) (x .rp .now)) (mergedStore (x .ut .now) (x .ui .now) (x .up .now) (x .uc .now) (x .ue .now)) (mergedStore (x .st .now) (x .si .now) (x .sp .now) (x .sc .now) (x .se .now)) (fractalStore (x .fs .now) (x .fp .now))) (rawStore (x .bt .now) (x .bi .now) (x .bp .now)) (c .before .before .before .before .before .before .before .before .before .before .before .before .before .before .before .before .before .before .before .before .before .before .before .before .before .before .before .before .before .before .before .before .before .before .before .before .before .before .before .before .before .before .before .before .before .before .before .before .before .before .before .before .before .before .before .fresh .result) (c .before .before .before .before .before .before .before .before .before .before .before .before .before .before .before .before .before .before .before .before .before .before .before .before .before .before .before .before .before .before .before .before .before .before .before .before .before .before .before .before .before .before .before .before .before .before .before .before .before .before .before .before .fewer .result) (c .before .before .before .before .before .before .before .before .before .before .before .before .before .before .before .before .before .before .before .before .before .before .before .before .before .before .before .before .before .before .before .before .before .before .before .before .before .before .before .before .before .before .before .before .before .before .before .before .before .before .before .fewer2 .result) (c .before .before .before .before .before .before .before .before .before .before .before .before .before .before .before .before .before .before .before .before .before .before .before .before .before .before .before .before .before .before .before .before .before .before .before .before .before .before .before .before .before .before .before .before .before .before .before .before .before .before .before .before .before .before .before .fresh .ensures) (c .before .before .before .before .before .before .before .before .before .before .before .before .before .before .before .before .before .before .before .before .before .before .before .before .before .before .before .before .before .before .before .before .before .before .before .before .before .before .before .before .before .before .before .before .before .before .before .before .before .before .before .before .before .if1 .left) (c .before .before .before .before .before .before .before .before .before .before .before .before .before .before .before .before .before .before .before .before .before .before .before .before .before .before .before .before .before .before .before .before .before .before .before .before .before .before .before .before .before .before .before .before .before .before .before .before .before .before .before .before .fewer .ensures) (c .before .before .before .before .before .before .before .before .before .before .before .before .before .before .before .before .before .before .before .before .before .before .before .before .before .before .before .before .before .before .before .before .before .before .before .before .before .before .before .before .before .before .before .before .before .before .before .before .before .before .before .fewer2 .ensures) _ (c .before .before .before .before .before .before .before .before .before .before .before .before .before .before .before .before .before .before .before .before .before .before .before .before .before .before .before .before .before .before .before .before .before .before .stores-sized .ensures) (c .before .before .before .before .before .before .before .before .before .before .before .before .before .before .before .before .before .before .before .before .before .before .before .before .before .before .before .before .before .before .before .before .before .if3 .taken)) (c .before .before .before .before .before .before .before .before .before .before .before .before .before .before .before .before .before .feed-from .ensures)) .fp
+same-length-15 c = (batch-lengths (can-at (yes-fed c)) (fed c .feed-from .ensures)) .fp
 
 returns-3 : tie.Need-returns-3
-returns-3 c = let x = c .before .before .before .before .before .before .before .before .before .before .before .before .before .before .before .before .before .before .before .before .before .before .before .before .before .before .before .before .before .before .before .before .before .before .before .before .before .before .before .before .before .before .before .before .before .before .before .before .before .before .before .before .before .before .before .before .before .before .args in batch-answered (x .minimum) (x .most) (x .rooms) (storesOf (rawStore (x .rt .now) (x .ri .now) (x .rp .now)) (mergedStore (x .ut .now) (x .ui .now) (x .up .now) (x .uc .now) (x .ue .now)) (mergedStore (x .st .now) (x .si .now) (x .sp .now) (x .sc .now) (x .se .now)) (fractalStore (x .fs .now) (x .fp .now))) _ (rawBars (rawStore (x .bt .now) (x .bi .now) (x .bp .now))) _ (c .before .before .before .before .before .before .before .before .before .before .before .before .before .before .before .before .before .before .before .before .before .before .before .before .before .before .before .before .before .before .before .before .before .before .before .before .before .before .before .before .before .before .before .before .before .before .before .before .before .before .before .before .before .before .before .fresh .result) (c .before .before .before .before .before .before .before .before .before .before .before .before .before .before .before .before .before .before .before .before .before .before .before .before .before .before .before .before .before .before .before .before .before .before .before .before .before .before .before .before .before .before .before .before .before .before .before .before .before .before .before .before .before .before .before .fresh .ensures) (c .before .before .before .before .before .before .before .before .before .before .before .before .before .before .before .before .before .before .before .before .before .before .before .before .before .before .before .before .before .before .before .before .before .before .before .before .before .before .before .before .before .before .before .before .before .before .before .before .before .before .before .before .before .if1 .left) (c .before .before .before .before .before .before .before .before .before .before .before .before .before .before .before .before .before .feed-from .ensures)
+returns-3 c =
+    let o = counted (yes-fed c .before) in
+    let f = fresh-of o in
+    let s = start f in
+    let x = s .args in
+    batch-answered (x .minimum) (x .most) (x .rooms) (lent s) _ (rawBars (to-feed s)) _ (f .fresh .result) (f .fresh .ensures) (answered o .if1 .left) (fed c .feed-from .ensures)
+
+-- ---- stores of other lengths
 
 same-length-16 : tie.Need-same-length-16
 same-length-16 c = search needs
@@ -136,7 +207,13 @@ same-length-30 : tie.Need-same-length-30
 same-length-30 c = search needs
 
 returns-4 : tie.Need-returns-4
-returns-4 c = let x = c .before .before .before .before .before .before .before .before .before .before .before .before .before .before .before .before .before .before .before .before .before .before .before .before .before .args in call-unsized (x .minimum) (x .most) (x .rooms) (storesOf (rawStore (x .rt .now) (x .ri .now) (x .rp .now)) (mergedStore (x .ut .now) (x .ui .now) (x .up .now) (x .uc .now) (x .ue .now)) (mergedStore (x .st .now) (x .si .now) (x .sp .now) (x .sc .now) (x .se .now)) (fractalStore (x .fs .now) (x .fp .now))) (rawStore (x .bt .now) (x .bi .now) (x .bp .now)) (c .before .before .before .before .before .before .before .before .before .before .before .before .before .before .before .before .before .before .before .before .before .before .fresh .result) (c .before .before .before .before .before .before .before .before .before .before .before .before .before .before .before .before .before .before .before .fewer .result) (c .before .before .before .before .before .before .before .before .before .before .before .before .before .before .before .before .before .before .fewer2 .result) (c .before .before .before .before .before .before .before .before .before .before .before .before .before .before .before .before .before .before .before .before .before .before .fresh .ensures) (c .before .before .before .before .before .before .before .before .before .before .before .before .before .before .before .before .before .before .before .before .if1 .left) (c .before .before .before .before .before .before .before .before .before .before .before .before .before .before .before .before .before .before .before .fewer .ensures) (c .before .before .before .before .before .before .before .before .before .before .before .before .before .before .before .before .before .before .fewer2 .ensures) _ (c .before .before .before .before .before .before .before .before .before .before .before .before .before .before .before .before .before .if2 .left) (c .before .stores-sized .ensures) (c .if3 .left)
+returns-4 c =
+    let o = counted (c .before) in
+    let f = fresh-of o in
+    let s = start f in
+    let x = s .args in
+    let n = o .before .fewer in
+    call-unsized (x .minimum) (x .most) (x .rooms) (lent s) (to-feed s) (f .fresh .result) (n .result) (o .fewer2 .result) (f .fresh .ensures) (answered o .if1 .left) (n .ensures) (o .fewer2 .ensures) _ (some-of (c .before) .if2 .left) (c .before .stores-sized .ensures) (c .if3 .left)
 
 pub feed-all-spec : {M : Type 1} → statement M
 feed-all-spec =

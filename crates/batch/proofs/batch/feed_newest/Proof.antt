@@ -4,76 +4,107 @@ use borrow.Author.Needs.{needs}
 use Rattle.batch.proofs.batch.feed_newest.Statement.{statement}
 use Rattle.batch.proofs.batch.feed_newest.Tie as tie
 
+-- ---- places in the code
+
+abbrev start : tie.After-newest-is-last-arg3 → tie.Start
+start c = c .before .before .before .before .before
+
+abbrev start-from-newest-is-last : tie.After-newest-is-last → tie.Start
+start-from-newest-is-last c = start (c .before)
+
+abbrev after-newest-is-last : tie.Then1 → tie.After-newest-is-last
+after-newest-is-last c = c .before
+
+abbrev after-newest-is-last-from-else1 : tie.Else1 → tie.After-newest-is-last
+after-newest-is-last-from-else1 c = c .before
+
+abbrev then1 : tie.After-feed-sound-arg15 → tie.Then1
+then1 c = c .before .before .before .before .before .before .before .before .before .before .before .before .before .before .before
+
+abbrev then1-from-feed-sound : tie.After-feed-sound → tie.Then1
+then1-from-feed-sound c = then1 (c .before)
+
+abbrev after-feed-sound : tie.After-fp → tie.After-feed-sound
+after-feed-sound c = c .before .before .before .before .before .before .before .before .before .before .before .before .before .before .before .before .before
+
+abbrev start-seen : tie.Else1 → tie.Start
+start-seen c = start-from-newest-is-last (after-newest-is-last-from-else1 c)
+
+abbrev start-seen-2 : tie.After-fp → tie.Start
+start-seen-2 c = start-from-newest-is-last (after-newest-is-last (then1-from-feed-sound (after-feed-sound c)))
+
+-- ---- what is needed
+
 newest-is-last-requires : tie.Need-newest-is-last-requires
 unfolding storesOf
-newest-is-last-requires c κs = asked-room (c .before .before .before .before .before .pre)
+newest-is-last-requires c κs = asked-room ((start c) .pre)
 
 feed-sound-requires : tie.Need-feed-sound-requires
 unfolding storesOf
-feed-sound-requires c κs = feed-asks (c .before .before .before .before .before .before .before .before .before .before .before .before .before .before .before .before .before .before .before .before .before .before .pre) (c .before .before .before .before .before .before .before .before .before .before .before .before .before .before .before .before .newest-is-last .ensures) (c .before .before .before .before .before .before .before .before .before .before .before .before .before .before .before .if1 .taken)
+feed-sound-requires c κs = feed-asks ((start-from-newest-is-last (after-newest-is-last (then1 c))) .pre) ((after-newest-is-last (then1 c)) .newest-is-last .ensures) ((then1 c) .if1 .taken)
 
 same-length : tie.Need-same-length
 unfolding storesOf
-same-length c = (feed-lengths (c .before .before .before .before .before .before .before .before .before .before .before .before .before .before .before .before .before .feed-sound .ensures) (c .before .before .before .before .before .before .before .before .before .before .before .before .before .before .before .before .before .before .before .before .before .before .before .before .before .before .before .before .before .before .before .before .before .before .before .before .before .before .before .before .pre)) .rt
+same-length c = (feed-lengths ((after-feed-sound c) .feed-sound .ensures) ((start-seen-2 c) .pre)) .rt
 
 same-length-2 : tie.Need-same-length-2
 unfolding storesOf
-same-length-2 c = (feed-lengths (c .before .before .before .before .before .before .before .before .before .before .before .before .before .before .before .before .before .feed-sound .ensures) (c .before .before .before .before .before .before .before .before .before .before .before .before .before .before .before .before .before .before .before .before .before .before .before .before .before .before .before .before .before .before .before .before .before .before .before .before .before .before .before .before .pre)) .ri
+same-length-2 c = (feed-lengths ((after-feed-sound c) .feed-sound .ensures) ((start-seen-2 c) .pre)) .ri
 
 same-length-3 : tie.Need-same-length-3
 unfolding storesOf
-same-length-3 c = (feed-lengths (c .before .before .before .before .before .before .before .before .before .before .before .before .before .before .before .before .before .feed-sound .ensures) (c .before .before .before .before .before .before .before .before .before .before .before .before .before .before .before .before .before .before .before .before .before .before .before .before .before .before .before .before .before .before .before .before .before .before .before .before .before .before .before .before .pre)) .rp
+same-length-3 c = (feed-lengths ((after-feed-sound c) .feed-sound .ensures) ((start-seen-2 c) .pre)) .rp
 
 same-length-4 : tie.Need-same-length-4
 unfolding storesOf
-same-length-4 c = (feed-lengths (c .before .before .before .before .before .before .before .before .before .before .before .before .before .before .before .before .before .feed-sound .ensures) (c .before .before .before .before .before .before .before .before .before .before .before .before .before .before .before .before .before .before .before .before .before .before .before .before .before .before .before .before .before .before .before .before .before .before .before .before .before .before .before .before .pre)) .ut
+same-length-4 c = (feed-lengths ((after-feed-sound c) .feed-sound .ensures) ((start-seen-2 c) .pre)) .ut
 
 same-length-5 : tie.Need-same-length-5
 unfolding storesOf
-same-length-5 c = (feed-lengths (c .before .before .before .before .before .before .before .before .before .before .before .before .before .before .before .before .before .feed-sound .ensures) (c .before .before .before .before .before .before .before .before .before .before .before .before .before .before .before .before .before .before .before .before .before .before .before .before .before .before .before .before .before .before .before .before .before .before .before .before .before .before .before .before .pre)) .ui
+same-length-5 c = (feed-lengths ((after-feed-sound c) .feed-sound .ensures) ((start-seen-2 c) .pre)) .ui
 
 same-length-6 : tie.Need-same-length-6
 unfolding storesOf
-same-length-6 c = (feed-lengths (c .before .before .before .before .before .before .before .before .before .before .before .before .before .before .before .before .before .feed-sound .ensures) (c .before .before .before .before .before .before .before .before .before .before .before .before .before .before .before .before .before .before .before .before .before .before .before .before .before .before .before .before .before .before .before .before .before .before .before .before .before .before .before .before .pre)) .up
+same-length-6 c = (feed-lengths ((after-feed-sound c) .feed-sound .ensures) ((start-seen-2 c) .pre)) .up
 
 same-length-7 : tie.Need-same-length-7
 unfolding storesOf
-same-length-7 c = (feed-lengths (c .before .before .before .before .before .before .before .before .before .before .before .before .before .before .before .before .before .feed-sound .ensures) (c .before .before .before .before .before .before .before .before .before .before .before .before .before .before .before .before .before .before .before .before .before .before .before .before .before .before .before .before .before .before .before .before .before .before .before .before .before .before .before .before .pre)) .uc
+same-length-7 c = (feed-lengths ((after-feed-sound c) .feed-sound .ensures) ((start-seen-2 c) .pre)) .uc
 
 same-length-8 : tie.Need-same-length-8
 unfolding storesOf
-same-length-8 c = (feed-lengths (c .before .before .before .before .before .before .before .before .before .before .before .before .before .before .before .before .before .feed-sound .ensures) (c .before .before .before .before .before .before .before .before .before .before .before .before .before .before .before .before .before .before .before .before .before .before .before .before .before .before .before .before .before .before .before .before .before .before .before .before .before .before .before .before .pre)) .ue
+same-length-8 c = (feed-lengths ((after-feed-sound c) .feed-sound .ensures) ((start-seen-2 c) .pre)) .ue
 
 same-length-9 : tie.Need-same-length-9
 unfolding storesOf
-same-length-9 c = (feed-lengths (c .before .before .before .before .before .before .before .before .before .before .before .before .before .before .before .before .before .feed-sound .ensures) (c .before .before .before .before .before .before .before .before .before .before .before .before .before .before .before .before .before .before .before .before .before .before .before .before .before .before .before .before .before .before .before .before .before .before .before .before .before .before .before .before .pre)) .st
+same-length-9 c = (feed-lengths ((after-feed-sound c) .feed-sound .ensures) ((start-seen-2 c) .pre)) .st
 
 same-length-10 : tie.Need-same-length-10
 unfolding storesOf
-same-length-10 c = (feed-lengths (c .before .before .before .before .before .before .before .before .before .before .before .before .before .before .before .before .before .feed-sound .ensures) (c .before .before .before .before .before .before .before .before .before .before .before .before .before .before .before .before .before .before .before .before .before .before .before .before .before .before .before .before .before .before .before .before .before .before .before .before .before .before .before .before .pre)) .si
+same-length-10 c = (feed-lengths ((after-feed-sound c) .feed-sound .ensures) ((start-seen-2 c) .pre)) .si
 
 same-length-11 : tie.Need-same-length-11
 unfolding storesOf
-same-length-11 c = (feed-lengths (c .before .before .before .before .before .before .before .before .before .before .before .before .before .before .before .before .before .feed-sound .ensures) (c .before .before .before .before .before .before .before .before .before .before .before .before .before .before .before .before .before .before .before .before .before .before .before .before .before .before .before .before .before .before .before .before .before .before .before .before .before .before .before .before .pre)) .sp
+same-length-11 c = (feed-lengths ((after-feed-sound c) .feed-sound .ensures) ((start-seen-2 c) .pre)) .sp
 
 same-length-12 : tie.Need-same-length-12
 unfolding storesOf
-same-length-12 c = (feed-lengths (c .before .before .before .before .before .before .before .before .before .before .before .before .before .before .before .before .before .feed-sound .ensures) (c .before .before .before .before .before .before .before .before .before .before .before .before .before .before .before .before .before .before .before .before .before .before .before .before .before .before .before .before .before .before .before .before .before .before .before .before .before .before .before .before .pre)) .sc
+same-length-12 c = (feed-lengths ((after-feed-sound c) .feed-sound .ensures) ((start-seen-2 c) .pre)) .sc
 
 same-length-13 : tie.Need-same-length-13
 unfolding storesOf
-same-length-13 c = (feed-lengths (c .before .before .before .before .before .before .before .before .before .before .before .before .before .before .before .before .before .feed-sound .ensures) (c .before .before .before .before .before .before .before .before .before .before .before .before .before .before .before .before .before .before .before .before .before .before .before .before .before .before .before .before .before .before .before .before .before .before .before .before .before .before .before .before .pre)) .se
+same-length-13 c = (feed-lengths ((after-feed-sound c) .feed-sound .ensures) ((start-seen-2 c) .pre)) .se
 
 same-length-14 : tie.Need-same-length-14
 unfolding storesOf
-same-length-14 c = (feed-lengths (c .before .before .before .before .before .before .before .before .before .before .before .before .before .before .before .before .before .feed-sound .ensures) (c .before .before .before .before .before .before .before .before .before .before .before .before .before .before .before .before .before .before .before .before .before .before .before .before .before .before .before .before .before .before .before .before .before .before .before .before .before .before .before .before .pre)) .fs
+same-length-14 c = (feed-lengths ((after-feed-sound c) .feed-sound .ensures) ((start-seen-2 c) .pre)) .fs
 
 same-length-15 : tie.Need-same-length-15
 unfolding storesOf
-same-length-15 c = (feed-lengths (c .before .before .before .before .before .before .before .before .before .before .before .before .before .before .before .before .before .feed-sound .ensures) (c .before .before .before .before .before .before .before .before .before .before .before .before .before .before .before .before .before .before .before .before .before .before .before .before .before .before .before .before .before .before .before .before .before .before .before .before .before .before .before .before .pre)) .fp
+same-length-15 c = (feed-lengths ((after-feed-sound c) .feed-sound .ensures) ((start-seen-2 c) .pre)) .fp
 
 returns : tie.Need-returns
-returns c = c .before .before .before .before .before .before .before .before .before .before .before .before .before .before .before .before .before .feed-sound .ensures
+returns c = (after-feed-sound c) .feed-sound .ensures
 
 same-length-16 : tie.Need-same-length-16
 same-length-16 c = search needs
@@ -86,7 +117,7 @@ same-length-18 c = search needs
 
 returns-2 : tie.Need-returns-2
 unfolding storesOf
-returns-2 c = feed-refused (c .before .before .before .before .before .before .before .args .b) (c .before .before .before .before .before .before .before .pre) (c .before .newest-is-last .ensures) (c .if1 .left)
+returns-2 c = feed-refused ((start-seen c) .args .b) ((start-seen c) .pre) (c .before .newest-is-last .ensures) (c .if1 .left)
 
 pub feed-newest-spec : {M : Type 1} → statement M
 feed-newest-spec =

@@ -1,6 +1,6 @@
 use mathlib.Core.Path.{_≡_, sym, _∙_}
-use Rattle.stores.specs.Stores.{rawStore, mergedStore}
-use Rattle.strokes.specs.Lent.{fractalStore, storesOf}
+use Rattle.strokes.specs.Lent.{Stores, storesOf, held}
+use Rattle.sound.specs.StandSound.{IsSound}
 use Rattle.question4.proofs.Question4Passed.{is-sound}
 use Rattle.feed.proofs.FeedLaws.{feed-4, fed-lengths}
 use Rattle.feed.proofs.PortDemand3.{port-demand3}
@@ -8,74 +8,101 @@ use borrow.Author.Needs.{needs}
 use Rattle.feed.proofs.feed.Czsc.update_bar.Statement.{statement}
 use Rattle.feed.proofs.feed.Czsc.update_bar.Tie as tie
 
+-- ---- places in the code
+
+-- the beginning, seen from question 4's answer
+abbrev start : tie.After-is-sound → tie.Start
+start c = c .before .before .before .before .before .before .before .before .before .before .before .before .before .before .before .before .before .before .before
+
+-- question 4 was answered "yes", seen from the call of feed_sound, and from the end
+abbrev yes : tie.After-feed-sound-arg15 → tie.Then1
+yes c = c .before .before .before .before .before .before .before .before .before .before .before .before .before .before .before
+
+abbrev fed : tie.After-fp → tie.After-feed-sound
+fed c = c .before .before .before .before .before .before .before .before .before .before .before .before .before .before .before .before .before
+
+abbrev yes-fed : tie.After-fp → tie.Then1
+yes-fed c = yes (fed c .before)
+
+-- the stores that are lent
+abbrev lent : tie.Start → Stores
+lent s = let a = s .args in held (a .rt) (a .ri) (a .rp) (a .ut) (a .ui) (a .up) (a .uc) (a .ue) (a .st) (a .si) (a .sp) (a .sc) (a .se) (a .fs) (a .fp)
+
+-- ---- a sound stand is fed
+
 is-sound-requires : tie.Need-is-sound-requires
 is-sound-requires c κs = search needs
 
+sound-at : (c : tie.Then1) → IsSound (start (c .before) .args .self .stand) (lent (start (c .before)))
+sound-at c = is-sound (start (c .before) .args .self .stand) (lent (start (c .before))) (sym (c .before .is-sound .ensures) ∙ c .if1 .taken)
+
 feed-sound-requires : tie.Need-feed-sound-requires
-feed-sound-requires c κs = let a = c .before .before .before .before .before .before .before .before .before .before .before .before .before .before .before .before .before .before .before .before .before .before .before .before .before .before .before .before .before .before .before .before .before .before .before .args in is-sound (a .self .stand) (storesOf (rawStore (a .rt .now) (a .ri .now) (a .rp .now)) (mergedStore (a .ut .now) (a .ui .now) (a .up .now) (a .uc .now) (a .ue .now)) (mergedStore (a .st .now) (a .si .now) (a .sp .now) (a .sc .now) (a .se .now)) (fractalStore (a .fs .now) (a .fp .now))) (sym (c .before .before .before .before .before .before .before .before .before .before .before .before .before .before .before .before .is-sound .ensures) ∙ c .before .before .before .before .before .before .before .before .before .before .before .before .before .before .before .if1 .taken)
+feed-sound-requires c κs = sound-at (yes c)
+
+returns : tie.Need-returns
+returns c = (fed c .feed-sound .ensures, port-demand3)
 
 same-length : tie.Need-same-length
 unfolding storesOf
-same-length c = let a = c .before .before .before .before .before .before .before .before .before .before .before .before .before .before .before .before .before .before .before .before .before .before .before .before .before .before .before .before .before .before .before .before .before .before .before .before .before .before .before .before .before .before .before .before .before .before .before .before .before .before .before .before .before .args in let w = c .before .before .before .before .before .before .before .before .before .before .before .before .before .before .before .before .before .feed-sound in (fed-lengths (is-sound (a .self .stand) (storesOf (rawStore (a .rt .now) (a .ri .now) (a .rp .now)) (mergedStore (a .ut .now) (a .ui .now) (a .up .now) (a .uc .now) (a .ue .now)) (mergedStore (a .st .now) (a .si .now) (a .sp .now) (a .sc .now) (a .se .now)) (fractalStore (a .fs .now) (a .fp .now))) (sym (c .before .before .before .before .before .before .before .before .before .before .before .before .before .before .before .before .before .before .before .before .before .before .before .before .before .before .before .before .before .before .before .before .before .before .is-sound .ensures) ∙ c .before .before .before .before .before .before .before .before .before .before .before .before .before .before .before .before .before .before .before .before .before .before .before .before .before .before .before .before .before .before .before .before .before .if1 .taken)) (w .ensures)) .rt
+same-length c = (fed-lengths (sound-at (yes-fed c)) (returns c .0)) .rt
 
 same-length-2 : tie.Need-same-length-2
 unfolding storesOf
-same-length-2 c = let a = c .before .before .before .before .before .before .before .before .before .before .before .before .before .before .before .before .before .before .before .before .before .before .before .before .before .before .before .before .before .before .before .before .before .before .before .before .before .before .before .before .before .before .before .before .before .before .before .before .before .before .before .before .before .args in let w = c .before .before .before .before .before .before .before .before .before .before .before .before .before .before .before .before .before .feed-sound in (fed-lengths (is-sound (a .self .stand) (storesOf (rawStore (a .rt .now) (a .ri .now) (a .rp .now)) (mergedStore (a .ut .now) (a .ui .now) (a .up .now) (a .uc .now) (a .ue .now)) (mergedStore (a .st .now) (a .si .now) (a .sp .now) (a .sc .now) (a .se .now)) (fractalStore (a .fs .now) (a .fp .now))) (sym (c .before .before .before .before .before .before .before .before .before .before .before .before .before .before .before .before .before .before .before .before .before .before .before .before .before .before .before .before .before .before .before .before .before .before .is-sound .ensures) ∙ c .before .before .before .before .before .before .before .before .before .before .before .before .before .before .before .before .before .before .before .before .before .before .before .before .before .before .before .before .before .before .before .before .before .if1 .taken)) (w .ensures)) .ri
+same-length-2 c = (fed-lengths (sound-at (yes-fed c)) (returns c .0)) .ri
 
 same-length-3 : tie.Need-same-length-3
 unfolding storesOf
-same-length-3 c = let a = c .before .before .before .before .before .before .before .before .before .before .before .before .before .before .before .before .before .before .before .before .before .before .before .before .before .before .before .before .before .before .before .before .before .before .before .before .before .before .before .before .before .before .before .before .before .before .before .before .before .before .before .before .before .args in let w = c .before .before .before .before .before .before .before .before .before .before .before .before .before .before .before .before .before .feed-sound in (fed-lengths (is-sound (a .self .stand) (storesOf (rawStore (a .rt .now) (a .ri .now) (a .rp .now)) (mergedStore (a .ut .now) (a .ui .now) (a .up .now) (a .uc .now) (a .ue .now)) (mergedStore (a .st .now) (a .si .now) (a .sp .now) (a .sc .now) (a .se .now)) (fractalStore (a .fs .now) (a .fp .now))) (sym (c .before .before .before .before .before .before .before .before .before .before .before .before .before .before .before .before .before .before .before .before .before .before .before .before .before .before .before .before .before .before .before .before .before .before .is-sound .ensures) ∙ c .before .before .before .before .before .before .before .before .before .before .before .before .before .before .before .before .before .before .before .before .before .before .before .before .before .before .before .before .before .before .before .before .before .if1 .taken)) (w .ensures)) .rp
+same-length-3 c = (fed-lengths (sound-at (yes-fed c)) (returns c .0)) .rp
 
 same-length-4 : tie.Need-same-length-4
 unfolding storesOf
-same-length-4 c = let a = c .before .before .before .before .before .before .before .before .before .before .before .before .before .before .before .before .before .before .before .before .before .before .before .before .before .before .before .before .before .before .before .before .before .before .before .before .before .before .before .before .before .before .before .before .before .before .before .before .before .before .before .before .before .args in let w = c .before .before .before .before .before .before .before .before .before .before .before .before .before .before .before .before .before .feed-sound in (fed-lengths (is-sound (a .self .stand) (storesOf (rawStore (a .rt .now) (a .ri .now) (a .rp .now)) (mergedStore (a .ut .now) (a .ui .now) (a .up .now) (a .uc .now) (a .ue .now)) (mergedStore (a .st .now) (a .si .now) (a .sp .now) (a .sc .now) (a .se .now)) (fractalStore (a .fs .now) (a .fp .now))) (sym (c .before .before .before .before .before .before .before .before .before .before .before .before .before .before .before .before .before .before .before .before .before .before .before .before .before .before .before .before .before .before .before .before .before .before .is-sound .ensures) ∙ c .before .before .before .before .before .before .before .before .before .before .before .before .before .before .before .before .before .before .before .before .before .before .before .before .before .before .before .before .before .before .before .before .before .if1 .taken)) (w .ensures)) .ut
+same-length-4 c = (fed-lengths (sound-at (yes-fed c)) (returns c .0)) .ut
 
 same-length-5 : tie.Need-same-length-5
 unfolding storesOf
-same-length-5 c = let a = c .before .before .before .before .before .before .before .before .before .before .before .before .before .before .before .before .before .before .before .before .before .before .before .before .before .before .before .before .before .before .before .before .before .before .before .before .before .before .before .before .before .before .before .before .before .before .before .before .before .before .before .before .before .args in let w = c .before .before .before .before .before .before .before .before .before .before .before .before .before .before .before .before .before .feed-sound in (fed-lengths (is-sound (a .self .stand) (storesOf (rawStore (a .rt .now) (a .ri .now) (a .rp .now)) (mergedStore (a .ut .now) (a .ui .now) (a .up .now) (a .uc .now) (a .ue .now)) (mergedStore (a .st .now) (a .si .now) (a .sp .now) (a .sc .now) (a .se .now)) (fractalStore (a .fs .now) (a .fp .now))) (sym (c .before .before .before .before .before .before .before .before .before .before .before .before .before .before .before .before .before .before .before .before .before .before .before .before .before .before .before .before .before .before .before .before .before .before .is-sound .ensures) ∙ c .before .before .before .before .before .before .before .before .before .before .before .before .before .before .before .before .before .before .before .before .before .before .before .before .before .before .before .before .before .before .before .before .before .if1 .taken)) (w .ensures)) .ui
+same-length-5 c = (fed-lengths (sound-at (yes-fed c)) (returns c .0)) .ui
 
 same-length-6 : tie.Need-same-length-6
 unfolding storesOf
-same-length-6 c = let a = c .before .before .before .before .before .before .before .before .before .before .before .before .before .before .before .before .before .before .before .before .before .before .before .before .before .before .before .before .before .before .before .before .before .before .before .before .before .before .before .before .before .before .before .before .before .before .before .before .before .before .before .before .before .args in let w = c .before .before .before .before .before .before .before .before .before .before .before .before .before .before .before .before .before .feed-sound in (fed-lengths (is-sound (a .self .stand) (storesOf (rawStore (a .rt .now) (a .ri .now) (a .rp .now)) (mergedStore (a .ut .now) (a .ui .now) (a .up .now) (a .uc .now) (a .ue .now)) (mergedStore (a .st .now) (a .si .now) (a .sp .now) (a .sc .now) (a .se .now)) (fractalStore (a .fs .now) (a .fp .now))) (sym (c .before .before .before .before .before .before .before .before .before .before .before .before .before .before .before .before .before .before .before .before .before .before .before .before .before .before .before .before .before .before .before .before .before .before .is-sound .ensures) ∙ c .before .before .before .before .before .before .before .before .before .before .before .before .before .before .before .before .before .before .before .before .before .before .before .before .before .before .before .before .before .before .before .before .before .if1 .taken)) (w .ensures)) .up
+same-length-6 c = (fed-lengths (sound-at (yes-fed c)) (returns c .0)) .up
 
 same-length-7 : tie.Need-same-length-7
 unfolding storesOf
-same-length-7 c = let a = c .before .before .before .before .before .before .before .before .before .before .before .before .before .before .before .before .before .before .before .before .before .before .before .before .before .before .before .before .before .before .before .before .before .before .before .before .before .before .before .before .before .before .before .before .before .before .before .before .before .before .before .before .before .args in let w = c .before .before .before .before .before .before .before .before .before .before .before .before .before .before .before .before .before .feed-sound in (fed-lengths (is-sound (a .self .stand) (storesOf (rawStore (a .rt .now) (a .ri .now) (a .rp .now)) (mergedStore (a .ut .now) (a .ui .now) (a .up .now) (a .uc .now) (a .ue .now)) (mergedStore (a .st .now) (a .si .now) (a .sp .now) (a .sc .now) (a .se .now)) (fractalStore (a .fs .now) (a .fp .now))) (sym (c .before .before .before .before .before .before .before .before .before .before .before .before .before .before .before .before .before .before .before .before .before .before .before .before .before .before .before .before .before .before .before .before .before .before .is-sound .ensures) ∙ c .before .before .before .before .before .before .before .before .before .before .before .before .before .before .before .before .before .before .before .before .before .before .before .before .before .before .before .before .before .before .before .before .before .if1 .taken)) (w .ensures)) .uc
+same-length-7 c = (fed-lengths (sound-at (yes-fed c)) (returns c .0)) .uc
 
 same-length-8 : tie.Need-same-length-8
 unfolding storesOf
-same-length-8 c = let a = c .before .before .before .before .before .before .before .before .before .before .before .before .before .before .before .before .before .before .before .before .before .before .before .before .before .before .before .before .before .before .before .before .before .before .before .before .before .before .before .before .before .before .before .before .before .before .before .before .before .before .before .before .before .args in let w = c .before .before .before .before .before .before .before .before .before .before .before .before .before .before .before .before .before .feed-sound in (fed-lengths (is-sound (a .self .stand) (storesOf (rawStore (a .rt .now) (a .ri .now) (a .rp .now)) (mergedStore (a .ut .now) (a .ui .now) (a .up .now) (a .uc .now) (a .ue .now)) (mergedStore (a .st .now) (a .si .now) (a .sp .now) (a .sc .now) (a .se .now)) (fractalStore (a .fs .now) (a .fp .now))) (sym (c .before .before .before .before .before .before .before .before .before .before .before .before .before .before .before .before .before .before .before .before .before .before .before .before .before .before .before .before .before .before .before .before .before .before .is-sound .ensures) ∙ c .before .before .before .before .before .before .before .before .before .before .before .before .before .before .before .before .before .before .before .before .before .before .before .before .before .before .before .before .before .before .before .before .before .if1 .taken)) (w .ensures)) .ue
+same-length-8 c = (fed-lengths (sound-at (yes-fed c)) (returns c .0)) .ue
 
 same-length-9 : tie.Need-same-length-9
 unfolding storesOf
-same-length-9 c = let a = c .before .before .before .before .before .before .before .before .before .before .before .before .before .before .before .before .before .before .before .before .before .before .before .before .before .before .before .before .before .before .before .before .before .before .before .before .before .before .before .before .before .before .before .before .before .before .before .before .before .before .before .before .before .args in let w = c .before .before .before .before .before .before .before .before .before .before .before .before .before .before .before .before .before .feed-sound in (fed-lengths (is-sound (a .self .stand) (storesOf (rawStore (a .rt .now) (a .ri .now) (a .rp .now)) (mergedStore (a .ut .now) (a .ui .now) (a .up .now) (a .uc .now) (a .ue .now)) (mergedStore (a .st .now) (a .si .now) (a .sp .now) (a .sc .now) (a .se .now)) (fractalStore (a .fs .now) (a .fp .now))) (sym (c .before .before .before .before .before .before .before .before .before .before .before .before .before .before .before .before .before .before .before .before .before .before .before .before .before .before .before .before .before .before .before .before .before .before .is-sound .ensures) ∙ c .before .before .before .before .before .before .before .before .before .before .before .before .before .before .before .before .before .before .before .before .before .before .before .before .before .before .before .before .before .before .before .before .before .if1 .taken)) (w .ensures)) .st
+same-length-9 c = (fed-lengths (sound-at (yes-fed c)) (returns c .0)) .st
 
 same-length-10 : tie.Need-same-length-10
 unfolding storesOf
-same-length-10 c = let a = c .before .before .before .before .before .before .before .before .before .before .before .before .before .before .before .before .before .before .before .before .before .before .before .before .before .before .before .before .before .before .before .before .before .before .before .before .before .before .before .before .before .before .before .before .before .before .before .before .before .before .before .before .before .args in let w = c .before .before .before .before .before .before .before .before .before .before .before .before .before .before .before .before .before .feed-sound in (fed-lengths (is-sound (a .self .stand) (storesOf (rawStore (a .rt .now) (a .ri .now) (a .rp .now)) (mergedStore (a .ut .now) (a .ui .now) (a .up .now) (a .uc .now) (a .ue .now)) (mergedStore (a .st .now) (a .si .now) (a .sp .now) (a .sc .now) (a .se .now)) (fractalStore (a .fs .now) (a .fp .now))) (sym (c .before .before .before .before .before .before .before .before .before .before .before .before .before .before .before .before .before .before .before .before .before .before .before .before .before .before .before .before .before .before .before .before .before .before .is-sound .ensures) ∙ c .before .before .before .before .before .before .before .before .before .before .before .before .before .before .before .before .before .before .before .before .before .before .before .before .before .before .before .before .before .before .before .before .before .if1 .taken)) (w .ensures)) .si
+same-length-10 c = (fed-lengths (sound-at (yes-fed c)) (returns c .0)) .si
 
 same-length-11 : tie.Need-same-length-11
 unfolding storesOf
-same-length-11 c = let a = c .before .before .before .before .before .before .before .before .before .before .before .before .before .before .before .before .before .before .before .before .before .before .before .before .before .before .before .before .before .before .before .before .before .before .before .before .before .before .before .before .before .before .before .before .before .before .before .before .before .before .before .before .before .args in let w = c .before .before .before .before .before .before .before .before .before .before .before .before .before .before .before .before .before .feed-sound in (fed-lengths (is-sound (a .self .stand) (storesOf (rawStore (a .rt .now) (a .ri .now) (a .rp .now)) (mergedStore (a .ut .now) (a .ui .now) (a .up .now) (a .uc .now) (a .ue .now)) (mergedStore (a .st .now) (a .si .now) (a .sp .now) (a .sc .now) (a .se .now)) (fractalStore (a .fs .now) (a .fp .now))) (sym (c .before .before .before .before .before .before .before .before .before .before .before .before .before .before .before .before .before .before .before .before .before .before .before .before .before .before .before .before .before .before .before .before .before .before .is-sound .ensures) ∙ c .before .before .before .before .before .before .before .before .before .before .before .before .before .before .before .before .before .before .before .before .before .before .before .before .before .before .before .before .before .before .before .before .before .if1 .taken)) (w .ensures)) .sp
+same-length-11 c = (fed-lengths (sound-at (yes-fed c)) (returns c .0)) .sp
 
 same-length-12 : tie.Need-same-length-12
 unfolding storesOf
-same-length-12 c = let a = c .before .before .before .before .before .before .before .before .before .before .before .before .before .before .before .before .before .before .before .before .before .before .before .before .before .before .before .before .before .before .before .before .before .before .before .before .before .before .before .before .before .before .before .before .before .before .before .before .before .before .before .before .before .args in let w = c .before .before .before .before .before .before .before .before .before .before .before .before .before .before .before .before .before .feed-sound in (fed-lengths (is-sound (a .self .stand) (storesOf (rawStore (a .rt .now) (a .ri .now) (a .rp .now)) (mergedStore (a .ut .now) (a .ui .now) (a .up .now) (a .uc .now) (a .ue .now)) (mergedStore (a .st .now) (a .si .now) (a .sp .now) (a .sc .now) (a .se .now)) (fractalStore (a .fs .now) (a .fp .now))) (sym (c .before .before .before .before .before .before .before .before .before .before .before .before .before .before .before .before .before .before .before .before .before .before .before .before .before .before .before .before .before .before .before .before .before .before .is-sound .ensures) ∙ c .before .before .before .before .before .before .before .before .before .before .before .before .before .before .before .before .before .before .before .before .before .before .before .before .before .before .before .before .before .before .before .before .before .if1 .taken)) (w .ensures)) .sc
+same-length-12 c = (fed-lengths (sound-at (yes-fed c)) (returns c .0)) .sc
 
 same-length-13 : tie.Need-same-length-13
 unfolding storesOf
-same-length-13 c = let a = c .before .before .before .before .before .before .before .before .before .before .before .before .before .before .before .before .before .before .before .before .before .before .before .before .before .before .before .before .before .before .before .before .before .before .before .before .before .before .before .before .before .before .before .before .before .before .before .before .before .before .before .before .before .args in let w = c .before .before .before .before .before .before .before .before .before .before .before .before .before .before .before .before .before .feed-sound in (fed-lengths (is-sound (a .self .stand) (storesOf (rawStore (a .rt .now) (a .ri .now) (a .rp .now)) (mergedStore (a .ut .now) (a .ui .now) (a .up .now) (a .uc .now) (a .ue .now)) (mergedStore (a .st .now) (a .si .now) (a .sp .now) (a .sc .now) (a .se .now)) (fractalStore (a .fs .now) (a .fp .now))) (sym (c .before .before .before .before .before .before .before .before .before .before .before .before .before .before .before .before .before .before .before .before .before .before .before .before .before .before .before .before .before .before .before .before .before .before .is-sound .ensures) ∙ c .before .before .before .before .before .before .before .before .before .before .before .before .before .before .before .before .before .before .before .before .before .before .before .before .before .before .before .before .before .before .before .before .before .if1 .taken)) (w .ensures)) .se
+same-length-13 c = (fed-lengths (sound-at (yes-fed c)) (returns c .0)) .se
 
 same-length-14 : tie.Need-same-length-14
 unfolding storesOf
-same-length-14 c = let a = c .before .before .before .before .before .before .before .before .before .before .before .before .before .before .before .before .before .before .before .before .before .before .before .before .before .before .before .before .before .before .before .before .before .before .before .before .before .before .before .before .before .before .before .before .before .before .before .before .before .before .before .before .before .args in let w = c .before .before .before .before .before .before .before .before .before .before .before .before .before .before .before .before .before .feed-sound in (fed-lengths (is-sound (a .self .stand) (storesOf (rawStore (a .rt .now) (a .ri .now) (a .rp .now)) (mergedStore (a .ut .now) (a .ui .now) (a .up .now) (a .uc .now) (a .ue .now)) (mergedStore (a .st .now) (a .si .now) (a .sp .now) (a .sc .now) (a .se .now)) (fractalStore (a .fs .now) (a .fp .now))) (sym (c .before .before .before .before .before .before .before .before .before .before .before .before .before .before .before .before .before .before .before .before .before .before .before .before .before .before .before .before .before .before .before .before .before .before .is-sound .ensures) ∙ c .before .before .before .before .before .before .before .before .before .before .before .before .before .before .before .before .before .before .before .before .before .before .before .before .before .before .before .before .before .before .before .before .before .if1 .taken)) (w .ensures)) .fs
+same-length-14 c = (fed-lengths (sound-at (yes-fed c)) (returns c .0)) .fs
 
 same-length-15 : tie.Need-same-length-15
 unfolding storesOf
-same-length-15 c = let a = c .before .before .before .before .before .before .before .before .before .before .before .before .before .before .before .before .before .before .before .before .before .before .before .before .before .before .before .before .before .before .before .before .before .before .before .before .before .before .before .before .before .before .before .before .before .before .before .before .before .before .before .before .before .args in let w = c .before .before .before .before .before .before .before .before .before .before .before .before .before .before .before .before .before .feed-sound in (fed-lengths (is-sound (a .self .stand) (storesOf (rawStore (a .rt .now) (a .ri .now) (a .rp .now)) (mergedStore (a .ut .now) (a .ui .now) (a .up .now) (a .uc .now) (a .ue .now)) (mergedStore (a .st .now) (a .si .now) (a .sp .now) (a .sc .now) (a .se .now)) (fractalStore (a .fs .now) (a .fp .now))) (sym (c .before .before .before .before .before .before .before .before .before .before .before .before .before .before .before .before .before .before .before .before .before .before .before .before .before .before .before .before .before .before .before .before .before .before .is-sound .ensures) ∙ c .before .before .before .before .before .before .before .before .before .before .before .before .before .before .before .before .before .before .before .before .before .before .before .before .before .before .before .before .before .before .before .before .before .if1 .taken)) (w .ensures)) .fp
+same-length-15 c = (fed-lengths (sound-at (yes-fed c)) (returns c .0)) .fp
 
-returns : tie.Need-returns
-returns c = (c .before .before .before .before .before .before .before .before .before .before .before .before .before .before .before .before .before .feed-sound .ensures, port-demand3)
+-- ---- any other is refused
 
 refused-requires : tie.Need-refused-requires
 refused-requires c κs = search needs
@@ -126,7 +153,10 @@ same-length-30 : tie.Need-same-length-30
 same-length-30 c = search needs
 
 returns-2 : tie.Need-returns-2
-returns-2 c = let a = c .before .before .before .before .before .before .before .before .before .before .before .before .before .before .before .before .before .before .before .before .before .args in (feed-4 (a .self .stand) (storesOf (rawStore (a .rt .now) (a .ri .now) (a .rp .now)) (mergedStore (a .ut .now) (a .ui .now) (a .up .now) (a .uc .now) (a .ue .now)) (mergedStore (a .st .now) (a .si .now) (a .sp .now) (a .sc .now) (a .se .now)) (fractalStore (a .fs .now) (a .fp .now))) (a .b) (c .refused .result) (c .refused .ensures) (sym (c .before .before .is-sound .ensures) ∙ c .before .if1 .left), port-demand3)
+returns-2 c =
+    let o = c .before .before in
+    let a = start o .args in
+    (feed-4 (a .self .stand) (lent (start o)) (a .b) (c .refused .result) (c .refused .ensures) (sym (o .is-sound .ensures) ∙ c .before .if1 .left), port-demand3)
 
 pub update-bar-spec : {M : Type 1} → statement M
 update-bar-spec =
