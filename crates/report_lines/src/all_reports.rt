@@ -4,7 +4,6 @@ use bar_lines::flag;
 use bar_lines::space;
 use bar_lines::spaced_float;
 use bars::Gap;
-use bars::GapAnswer;
 use libc::STDOUT_FILENO;
 use reports::FractalAnswers;
 use reports::Measures;
@@ -1010,23 +1009,51 @@ fn gap_line(g: Gap) {
     }
 }
 
-fn gap_answer(a: GapAnswer) {
-    match a {
-        GapAnswer::Pair(g) => gap_line(g),
-        GapAnswer::Missing => {
-            io::write_all(STDOUT_FILENO, b"gap missing\n");
-        }
-    }
-}
-
-fn gaps(rp: &[[f64; 6]], n: usize) {
-    if n < 2 {
-        return;
-    }
-    let m = n - 1;
+// Each pair of neighbouring kept raw bars.
+fn gaps(
+    stand: Stand,
+    rt: &[i64],
+    ri: &[i32],
+    rp: &[[f64; 6]],
+    ut: &[i64],
+    ui: &[i32],
+    up: &[[f64; 6]],
+    uc: &[usize],
+    ue: &[[i64; 101]],
+    st: &[i64],
+    si: &[i32],
+    sp: &[[f64; 6]],
+    sc: &[usize],
+    se: &[[i64; 101]],
+    fs: &[[i64; 6]],
+    fp: &[[f64; 18]],
+) {
     let mut i: usize = 0;
-    while i < m {
-        gap_answer(bars::check_gap_info(rp, n, i));
+    while i < 65536 {
+        let a = reports::check_gap_info(
+            stand,
+            rt,
+            ri,
+            rp,
+            ut,
+            ui,
+            up,
+            uc,
+            ue,
+            st,
+            si,
+            sp,
+            sc,
+            se,
+            fs,
+            fp,
+            i,
+        );
+        if a.failed > 0 {
+            return;
+        }
+        let g = a.gap;
+        gap_line(g);
         i += 1;
     }
 }
@@ -1361,7 +1388,24 @@ fn over_all(
         fs,
         fp,
     );
-    gaps(rp, stand.raw);
+    gaps(
+        stand,
+        rt,
+        ri,
+        rp,
+        ut,
+        ui,
+        up,
+        uc,
+        ue,
+        st,
+        si,
+        sp,
+        sc,
+        se,
+        fs,
+        fp,
+    );
     io::write_all(STDOUT_FILENO, b"end\n");
 }
 

@@ -15,3 +15,4 @@ pub mod FxWindowLaws
 pub mod FxPasses
 pub mod FxSame
 pub mod InnerRawLaws
+pub mod GapLaws

@@ -9,5 +9,6 @@ pub mod ReportCases
 pub mod ListAnswers
 pub mod UbiAnswers
 pub mod FxAnswers
+pub mod GapAnswers
 pub mod InnerRawCases
 pub mod Code

@@ -16,6 +16,7 @@ pub use asked_fractals::unfinished_fractal_answers;
 pub use asked_measures::MeasuresAnswer;
 
 mod finished;
+mod gaps;
 mod ubi;
 
 pub use asked_measures::measures_at;
@@ -29,6 +30,10 @@ pub use fractal_answers::FractalAnswers;
 pub use fractal_answers::Strength;
 pub use fx_answer::FxListAnswer;
 pub use fx_answer::get_fx_list;
+pub use gaps::GapInfo;
+pub use gaps::GapsAnswer;
+pub use gaps::check_gap_info;
+pub use gaps::check_gaps;
 pub use measures::Measures;
 pub use ubi::FractalBars;
 pub use ubi::UbiAnswer;

@@ -4,16 +4,10 @@ use Rattle.report_lines.proofs.all_reports.gaps.Statement.{statement}
 use Rattle.report_lines.proofs.all_reports.gaps.Tie as tie
 
 abbrev Inv-loop : tie.InvT-loop
-Inv-loop rp n m i₀ i = i ≤ m
+Inv-loop stand rt ri rp ut ui up uc ue st si sp sc se fs fp i₀ i = i ≤ 65536
 
 abbrev μ-loop : tie.MeasureT-loop
-μ-loop rp n m i₀ i = m - i
-
-returns : tie.Need-returns Inv-loop μ-loop
-returns c = search needs
-
-sub-m : tie.Need-sub-m Inv-loop μ-loop
-sub-m c = search needs
+μ-loop stand rt ri rp ut ui up uc ue st si sp sc se fs fp i₀ i = 65536 - i
 
 loop-holds : tie.Need-loop-holds Inv-loop μ-loop
 loop-holds c = search needs
@@ -21,8 +15,11 @@ loop-holds c = search needs
 check-gap-info-requires : tie.Need-check-gap-info-requires Inv-loop μ-loop
 check-gap-info-requires c κs = search needs
 
-gap-answer-requires : tie.Need-gap-answer-requires Inv-loop μ-loop
-gap-answer-requires c κs = search needs
+returns : tie.Need-returns Inv-loop μ-loop
+returns c = search needs
+
+gap-line-requires : tie.Need-gap-line-requires Inv-loop μ-loop
+gap-line-requires c κs = search needs
 
 add-i : tie.Need-add-i Inv-loop μ-loop
 add-i c = search needs
@@ -42,11 +39,10 @@ gaps-spec =
     (tie.spec
     Inv-loop
     μ-loop
-    returns
-    sub-m
     loop-holds
     check-gap-info-requires
-    gap-answer-requires
+    returns
+    gap-line-requires
     add-i
     loop-less
     loop-again

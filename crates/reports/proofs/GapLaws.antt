@@ -1,0 +1,97 @@
+-- What a sound stand gives the gap reports. Assumes nothing.
+use Prim.Native.Nat.{ℕ, zero, suc, _-_, _≤_, _<_}
+use native.Mathlib.Omega.{arith}
+use mathlib.Core.Path.{_≡_, refl, ap, sym, _∙_, subst}
+use mathlib.Core.Bool.{Bool, true, false, _&&_}
+use mathlib.Core.List.{List}
+use lib.ListN.{length, take}
+use lib.Seq.{length-take-le}
+use lib.Dec.{leb}
+use lib.Ieee.{Float}
+use borrow.Author.Tests.{le-leb}
+use Rattle.bars.specs.declared.gaps.GapAnswer.{GapAnswer}
+use Rattle.bars.specs.Gaps.{gapAt, gapAmong, unlessShort, gapsOf, GapColumns, GapsListed, gapsListed, listIf, listGaps, written}
+use Rattle.bars.proofs.GapPairs.{gaps-length}
+use Rattle.strokes.specs.declared.Stand.{Stand}
+use Rattle.strokes.specs.Lent.{Stores}
+use Rattle.question4.specs.Question4.{question4}
+use Rattle.question4.proofs.Question4Passed.{is-sound}
+use Rattle.sound.proofs.SoundFacts.{sound-fit}
+use Rattle.reports.specs.declared.gaps.GapInfo.{GapInfo}
+use Rattle.reports.specs.declared.gaps.GapsAnswer.{GapsAnswer}
+use Rattle.reports.specs.Code.GapSteps.{countIf}
+use Rattle.reports.specs.GapAnswers.{keptPrices, noGap, pairGiven, pairBy, gapReport, GapsAnswered, gapsAnswered, gapsFit, gapsBy, gapsReport}
+
+-- the rows of the kept raw bars are there
+rows-there : (s : Stand) (m : Stores) → question4 s m ≡ true → s .raw ≤ length (m .raw .prices)
+rows-there s m e =
+    let f = sound-fit s m (is-sound s m e) in
+    rw (f .raw .prices) (f .few-raw)
+
+-- ---- one pair
+
+pub pair-no : (s : Stand) (m : Stores) (i : ℕ) (r : GapInfo) → question4 s m ≡ false → r ≡ noGap 4 → r ≡ gapReport s m i
+unfolding gapReport pairBy
+pair-no s m i r e q = q ∙ ap (λ (t : Bool). pairBy t (gapAt (keptPrices s m) i)) (sym e)
+
+among-all : (ps : List (List Float)) (n i : ℕ) → n ≤ length ps → gapAmong ps n i ≡ gapAt (take n ps) i
+unfolding gapAmong unlessShort
+among-all ps n i h = ap (λ (t : Bool). unlessShort t (gapAt (take n ps) i)) (le-leb n (length ps) h)
+
+pub pair-yes : (s : Stand) (m : Stores) (i : ℕ) (a : GapAnswer) (r : GapInfo) → question4 s m ≡ true → a ≡ gapAmong (m .raw .prices) (s .raw) i → r ≡ pairGiven a → r ≡ gapReport s m i
+unfolding gapReport pairBy keptPrices
+pair-yes s m i a r e w q =
+    q
+    ∙ ap pairGiven (w ∙ among-all (m .raw .prices) (s .raw) i (rows-there s m e))
+    ∙ ap (λ (t : Bool). pairBy t (gapAt (keptPrices s m) i)) (sym e)
+
+-- ---- all pairs
+
+pub count-no : (q n : ℕ) → 0 < q → 0 ≡ countIf q n
+unfolding countIf
+count-no zero n h = absurd (omega arith)
+count-no (suc q) n h = refl
+
+pub count-yes : (q n : ℕ) → q ≤ 0 → n - 1 ≡ countIf q n
+unfolding countIf
+count-yes zero n h = refl
+count-yes (suc q) n h = absurd (omega arith)
+
+pub gaps-no : (s : Stand) (m : Stores) (d : GapColumns) → question4 s m ≡ false → gapsAnswered (record { failed = 4; count = 0 }) d ≡ gapsReport s m d
+unfolding gapsReport gapsBy
+gaps-no s m d e = ap (λ (t : Bool). gapsBy t (gapsFit d (length (gapsOf (keptPrices s m)))) (gapsOf (keptPrices s m)) d) (sym e)
+
+-- what the code says of a listing
+told : ℕ → GapsListed → GapsAnswered
+told n l = gapsAnswered (record { failed = l .number; count = countIf (l .number) n }) (l .columns)
+
+-- a listing where all bars are there, by whether each column has a place for each pair
+told-if : (k v c : Bool) (ps : List (List Float)) (n j : ℕ) (d : GapColumns) → j ≡ n - 1 → j ≡ length (gapsOf (take n ps))
+    → told n (listIf true k v c ps n d) ≡ gapsBy true (k && (v && c)) (gapsOf (take n ps)) d
+unfolding told listIf gapsBy countIf
+told-if false v c ps n j d h g = refl
+told-if true false c ps n j d h g = refl
+told-if true true false ps n j d h g = refl
+told-if true true true ps n j d h g =
+    let e : n - 1 ≡ length (gapsOf (take n ps)) = sym h ∙ g in
+    λ i. gapsAnswered (record { failed = 0; count = e i }) (written (gapsOf (take n ps)) (e i) d)
+
+told-all : (ps : List (List Float)) (n : ℕ) (d : GapColumns) → n ≤ length ps
+    → told n (listGaps ps n d) ≡ gapsBy true (gapsFit d (length (gapsOf (take n ps)))) (gapsOf (take n ps)) d
+unfolding listGaps gapsFit
+told-all ps n d h =
+    let gs = gapsOf (take n ps) in
+    let e : length gs ≡ n - 1 = gaps-length (take n ps) ∙ ap (λ (k : ℕ). k - 1) (length-take-le n ps h) in
+    let fit : ℕ → Bool = λ j. (leb j (length (d .kinds)) && (leb j (length (d .values)) && leb j (length (d .covered)))) in
+    ap (λ (t : Bool). told n (listIf t (leb (n - 1) (length (d .kinds))) (leb (n - 1) (length (d .values))) (leb (n - 1) (length (d .covered))) ps n d)) (le-leb n (length ps) h)
+    ∙ told-if (leb (n - 1) (length (d .kinds))) (leb (n - 1) (length (d .values))) (leb (n - 1) (length (d .covered))) ps n (n - 1) d refl (sym e)
+    ∙ ap (λ (j : ℕ). gapsBy true (fit j) gs d) (sym e)
+
+pub gaps-yes : (s : Stand) (m : Stores) (d d' : GapColumns) (q n : ℕ) → question4 s m ≡ true → gapsListed q d' ≡ listGaps (m .raw .prices) (s .raw) d → n ≡ countIf q (s .raw)
+    → gapsAnswered (record { failed = q; count = n }) d' ≡ gapsReport s m d
+unfolding gapsReport keptPrices told
+gaps-yes s m d d' q n e w k =
+    (λ i. gapsAnswered (record { failed = q; count = k i }) d')
+    ∙ ap (told (s .raw)) w
+    ∙ told-all (m .raw .prices) (s .raw) d (rows-there s m e)
+    ∙ ap (λ (t : Bool). gapsBy t (gapsFit d (length (gapsOf (keptPrices s m)))) (gapsOf (keptPrices s m)) d) (sym e)

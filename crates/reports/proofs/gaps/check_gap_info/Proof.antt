@@ -1,0 +1,37 @@
+use mathlib.Core.Path.{sym, _∙_}
+use borrow.Author.Tests.{not-true, not-false}
+use Rattle.strokes.specs.Lent.{storesOf}
+use Rattle.reports.proofs.GapLaws.{pair-no, pair-yes}
+use borrow.Author.Needs.{needs}
+use Rattle.reports.proofs.gaps.check_gap_info.Statement.{statement}
+use Rattle.reports.proofs.gaps.check_gap_info.Tie as tie
+
+is-sound-requires : tie.Need-is-sound-requires
+is-sound-requires c κs = search needs
+
+refused-gap-requires : tie.Need-refused-gap-requires
+refused-gap-requires c κs = search needs
+
+returns : tie.Need-returns
+returns c = pair-no _ _ _ _ (sym (c .before .before .is-sound .ensures) ∙ not-true _ (c .before .if1 .taken)) (c .refused-gap .ensures)
+
+check-gap-info-requires : tie.Need-check-gap-info-requires
+check-gap-info-requires c κs = search needs
+
+given-pair-requires : tie.Need-given-pair-requires
+given-pair-requires c κs = search needs
+
+returns-2 : tie.Need-returns-2
+unfolding storesOf
+returns-2 c = pair-yes _ _ _ _ _ (sym (c .before .before .before .is-sound .ensures) ∙ not-false _ (c .before .before .if1 .left)) (c .before .check-gap-info .ensures) (c .given-pair .ensures)
+
+pub check-gap-info-spec : {M : Type 1} → statement M
+check-gap-info-spec =
+    tie.close
+    (tie.spec
+    is-sound-requires
+    refused-gap-requires
+    returns
+    check-gap-info-requires
+    given-pair-requires
+    returns-2)
