@@ -1058,7 +1058,7 @@ fn gaps(
     }
 }
 
-// The fractals of the unfinished bars: those that get_fx_list would list if no stroke were kept.
+// The fractals of the unfinished bars.
 fn unfinished_fractals(
     stand: Stand,
     rt: &[i64],
@@ -1079,21 +1079,8 @@ fn unfinished_fractals(
 ) {
     let mut os = [[0i64; 6]; 3072];
     let mut op = [[0f64; 18]; 3072];
-    let rooms = stand.rooms;
-    let bars = stand.bars;
-    let fractals = stand.fractals;
-    let alone = Stand {
-        minimum: stand.minimum,
-        most: stand.most,
-        rooms,
-        raw: stand.raw,
-        unfinished: stand.unfinished,
-        strokes: 0,
-        bars,
-        fractals,
-    };
-    let r = reports::get_fx_list(
-        alone,
+    let r = reports::ubi_fxs(
+        stand,
         rt,
         ri,
         rp,

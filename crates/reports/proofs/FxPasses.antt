@@ -148,13 +148,14 @@ done-yes l d d' n e k q =
     }
 
 -- the first pass may begin
-pub first-asked : (s : Stand) (u : RawStore) (f : FractalStore) → CanGo s u f → (x : Listing) → x .listed .count ≡ 0 → CanList false x (allRows s u f)
-first-asked s u f h x z =
-    let k = rows-few s u f h in
-    record { room = λ q. (let b : ⊥ = false-true q in absurd b); small = omega arith }
+first-of : (l : List Fractal) → length l < 4294967296 → (x : Listing) → x .listed .count ≡ 0 → CanList false x l
+first-of l k x z = record { room = λ q. (let b : ⊥ = false-true q in absurd b); small = omega arith }
   where
     false-true : false ≡ true → ⊥
     false-true q = subst (λ (b : Bool). T (cond b false true)) q tt
+
+pub first-asked : (s : Stand) (u : RawStore) (f : FractalStore) → CanGo s u f → (x : Listing) → x .listed .count ≡ 0 → CanList false x (allRows s u f)
+first-asked s u f h x z = first-of (allRows s u f) (rows-few s u f h) x z
 
 -- after the first pass: the output is d1, and r is what was listed
 module _ (l : List Fractal) (d d1 : FractalStore) (s r : Listed) (z : s .count ≡ 0) (e : record { store = d1; listed = r } ≡ stepAll false (record { store = d; listed = s }) l) where
@@ -202,3 +203,19 @@ module _ (st : Stand) (u : RawStore) (f : FractalStore) (h : CanGo st u f) (d d1
   pub all-done : (d2 : FractalStore) (r2 : Listed) → record { store = d2; listed = r2 } ≡ stepAll true (record { store = d1; listed = s }) (allRows st u f)
       → FxDone true (laterThan none (allRows st u f)) d d2 (record { failed = 0; count = r2 .count })
   all-done d2 r2 q = second-done (allRows st u f) d d1 s r z e (rows-few st u f h) a b d2 r2 q
+
+-- the same of the unfinished bars alone, of which there are n
+module _ (u : RawStore) (n : ℕ) (h : n ≤ 65536) where
+  few : length (fractalsBetween u 0 n) < 4294967296
+  few = let w = windows-few u n in omega arith
+
+  pub windows-first : (x : Listing) → x .listed .count ≡ 0 → CanList false x (fractalsBetween u 0 n)
+  windows-first x z = first-of (fractalsBetween u 0 n) few x z
+
+  module _ (d d1 : FractalStore) (s r : Listed) (z : s .count ≡ 0) (e : record { store = d1; listed = r } ≡ stepAll false (record { store = d; listed = s }) (fractalsBetween u 0 n)) (a : r .count ≤ length (d1 .stamps)) (b : r .count ≤ length (d1 .prices)) where
+    pub windows-second : CanList true (record { store = d1; listed = s }) (fractalsBetween u 0 n)
+    windows-second = second-can (fractalsBetween u 0 n) d d1 s r z e few a b
+
+    pub windows-done : (d2 : FractalStore) (r2 : Listed) → record { store = d2; listed = r2 } ≡ stepAll true (record { store = d1; listed = s }) (fractalsBetween u 0 n)
+        → FxDone true (laterThan none (fractalsBetween u 0 n)) d d2 (record { failed = 0; count = r2 .count })
+    windows-done d2 r2 q = second-done (fractalsBetween u 0 n) d d1 s r z e few a b d2 r2 q

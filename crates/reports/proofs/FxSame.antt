@@ -40,7 +40,7 @@ unfolding listIf bareFractal bareBar timeOf
 bare-if true f p rest rest' h = ap (λ (x : List Fractal). bareFractal f ∷ x) (h (some (timeOf f)))
 bare-if false f p rest rest' h = h p
 
-later-bare : (p : Option ℤ) (l : List Fractal) → map bareFractal (laterThan p l) ≡ laterThan p (map bareFractal l)
+pub later-bare : (p : Option ℤ) (l : List Fractal) → map bareFractal (laterThan p l) ≡ laterThan p (map bareFractal l)
 unfolding laterThan bareFractal bareBar timeOf
 later-bare p [] = refl
 later-bare p (f ∷ l) = bare-if (isAfter p (timeOf f)) f p (λ q. laterThan q l) (λ q. laterThan q (map bareFractal l)) (λ q. later-bare q l)
@@ -66,7 +66,7 @@ out-bare true d l = put-bare d 0 l
 out-bare false d l = refl
 
 -- lists that are alike without elements have the same answer and the same output
-same-done : (t : Bool) (l l' : List Fractal) (d d' : FractalStore) (r : FxListAnswer) → map bareFractal l ≡ map bareFractal l' → FxDone t l d d' r → FxDone t l' d d' r
+pub same-done : (t : Bool) (l l' : List Fractal) (d d' : FractalStore) (r : FxListAnswer) → map bareFractal l ≡ map bareFractal l' → FxDone t l d d' r → FxDone t l' d d' r
 same-done t l l' d d' r e h =
     let n : length l ≡ length l' = sym (length-map l bareFractal) ∙ ap length e ∙ length-map l' bareFractal in
     record {
@@ -139,10 +139,9 @@ module _ (s : Stand) (m : Stores) (lb : length (s .bars) ≡ 65) (lf : length (s
 
 -- ---- the answers, by question 4
 
-pub fx-no : (s : Stand) (m : Stores) (d : FractalStore) → question4 s m ≡ false → FxDone (question4 s m) (fxListOf (stateOf s m)) d d (record { failed = 4; count = 0 })
+pub fx-no : (t : Bool) (l : List Fractal) (d : FractalStore) → t ≡ false → FxDone t l d d (record { failed = 4; count = 0 })
 unfolding listedBy outputBy
-fx-no s m d e =
-    let l = fxListOf (stateOf s m) in
+fx-no t l d e =
     record {
       answer = ap (λ (t : Bool). listedBy t (fitsAll d (length l)) (length l)) (sym e);
       output = ap (λ (t : Bool). outputBy (t && fitsAll d (length l)) d l) (sym e);

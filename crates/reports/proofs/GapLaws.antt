@@ -14,6 +14,7 @@ use Rattle.bars.specs.Gaps.{gapAt, gapAmong, unlessShort, gapsOf, GapColumns, G
 use Rattle.bars.proofs.GapPairs.{gaps-length}
 use Rattle.strokes.specs.declared.Stand.{Stand}
 use Rattle.strokes.specs.Lent.{Stores}
+use Rattle.named.specs.ReportQuestions.{question14}
 use Rattle.question4.specs.Question4.{question4}
 use Rattle.question4.proofs.Question4Passed.{is-sound}
 use Rattle.sound.proofs.SoundFacts.{sound-fit}
@@ -59,32 +60,30 @@ count-yes (suc q) n h = absurd (omega arith)
 
 pub gaps-no : (s : Stand) (m : Stores) (d : GapColumns) → question4 s m ≡ false → gapsAnswered (record { failed = 4; count = 0 }) d ≡ gapsReport s m d
 unfolding gapsReport gapsBy
-gaps-no s m d e = ap (λ (t : Bool). gapsBy t (gapsFit d (length (gapsOf (keptPrices s m)))) (gapsOf (keptPrices s m)) d) (sym e)
+gaps-no s m d e = ap (λ (t : Bool). gapsBy t (gapsFit d (gapsOf (keptPrices s m))) (gapsOf (keptPrices s m)) d) (sym e)
 
 -- what the code says of a listing
 told : ℕ → GapsListed → GapsAnswered
 told n l = gapsAnswered (record { failed = l .number; count = countIf (l .number) n }) (l .columns)
 
 -- a listing where all bars are there, by whether each column has a place for each pair
-told-if : (k v c : Bool) (ps : List (List Float)) (n j : ℕ) (d : GapColumns) → j ≡ n - 1 → j ≡ length (gapsOf (take n ps))
+told-if : (k v c : Bool) (ps : List (List Float)) (n : ℕ) (d : GapColumns) → length (gapsOf (take n ps)) ≡ n - 1
     → told n (listIf true k v c ps n d) ≡ gapsBy true (k && (v && c)) (gapsOf (take n ps)) d
 unfolding told listIf gapsBy countIf
-told-if false v c ps n j d h g = refl
-told-if true false c ps n j d h g = refl
-told-if true true false ps n j d h g = refl
-told-if true true true ps n j d h g =
-    let e : n - 1 ≡ length (gapsOf (take n ps)) = sym h ∙ g in
-    λ i. gapsAnswered (record { failed = 0; count = e i }) (written (gapsOf (take n ps)) (e i) d)
+told-if false v c ps n d h = refl
+told-if true false c ps n d h = refl
+told-if true true false ps n d h = refl
+told-if true true true ps n d h = λ i. gapsAnswered (record { failed = 0; count = sym h i }) (written (gapsOf (take n ps)) (sym h i) d)
 
 told-all : (ps : List (List Float)) (n : ℕ) (d : GapColumns) → n ≤ length ps
-    → told n (listGaps ps n d) ≡ gapsBy true (gapsFit d (length (gapsOf (take n ps)))) (gapsOf (take n ps)) d
-unfolding listGaps gapsFit
+    → told n (listGaps ps n d) ≡ gapsBy true (gapsFit d (gapsOf (take n ps))) (gapsOf (take n ps)) d
+unfolding listGaps gapsFit question14
 told-all ps n d h =
     let gs = gapsOf (take n ps) in
     let e : length gs ≡ n - 1 = gaps-length (take n ps) ∙ ap (λ (k : ℕ). k - 1) (length-take-le n ps h) in
     let fit : ℕ → Bool = λ j. (leb j (length (d .kinds)) && (leb j (length (d .values)) && leb j (length (d .covered)))) in
     ap (λ (t : Bool). told n (listIf t (leb (n - 1) (length (d .kinds))) (leb (n - 1) (length (d .values))) (leb (n - 1) (length (d .covered))) ps n d)) (le-leb n (length ps) h)
-    ∙ told-if (leb (n - 1) (length (d .kinds))) (leb (n - 1) (length (d .values))) (leb (n - 1) (length (d .covered))) ps n (n - 1) d refl (sym e)
+    ∙ told-if (leb (n - 1) (length (d .kinds))) (leb (n - 1) (length (d .values))) (leb (n - 1) (length (d .covered))) ps n d e
     ∙ ap (λ (j : ℕ). gapsBy true (fit j) gs d) (sym e)
 
 pub gaps-yes : (s : Stand) (m : Stores) (d d' : GapColumns) (q n : ℕ) → question4 s m ≡ true → gapsListed q d' ≡ listGaps (m .raw .prices) (s .raw) d → n ≡ countIf q (s .raw)
@@ -94,4 +93,4 @@ gaps-yes s m d d' q n e w k =
     (λ i. gapsAnswered (record { failed = q; count = k i }) d')
     ∙ ap (told (s .raw)) w
     ∙ told-all (m .raw .prices) (s .raw) d (rows-there s m e)
-    ∙ ap (λ (t : Bool). gapsBy t (gapsFit d (length (gapsOf (keptPrices s m)))) (gapsOf (keptPrices s m)) d) (sym e)
+    ∙ ap (λ (t : Bool). gapsBy t (gapsFit d (gapsOf (keptPrices s m))) (gapsOf (keptPrices s m)) d) (sym e)

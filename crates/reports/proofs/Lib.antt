@@ -14,5 +14,6 @@ pub mod FxWritten
 pub mod FxWindowLaws
 pub mod FxPasses
 pub mod FxSame
+pub mod UnfinishedFxs
 pub mod InnerRawLaws
 pub mod GapLaws

@@ -1,11 +1,11 @@
--- What get_fx_list answers of a stand and its lent stores, and the lent output that it writes. Definitions only.
+-- What get_fx_list and ubi_fxs answer of a stand and its lent stores, and the lent output that they write. Definitions only.
 use Prim.Native.Nat.{ℕ}
 use mathlib.Core.Bool.{Bool, true, false, _&&_}
 use mathlib.Core.List.{List}
 use mathlib.Core.Path.{_≡_}
 use lib.ListN.{length}
 use lib.Dec.{leb}
-use Rattle.machine.specs.Fractals.{Fractal}
+use Rattle.machine.specs.Fractals.{Fractal, checkFxs}
 use Rattle.machine.specs.Stand.{State}
 use Rattle.strokes.specs.Lent.{FractalStore}
 use Rattle.strokes.specs.FractalRows.{putFractals}
@@ -39,3 +39,8 @@ pub record FxDone (t : Bool) (l : List Fractal) (d d' : FractalStore) (r : FxLis
 unfoldable pub fxListOf : State → List Fractal
 unfolding getFxList
 fxListOf s = getFxList (s .strokes) (s .unfinished)
+
+-- the fractals of the unfinished bars, oldest first: `fxs` of the source's get_ubi
+unfoldable pub ubiFxsOf : State → List Fractal
+unfolding checkFxs
+ubiFxsOf s = checkFxs (s .unfinished)

@@ -3,7 +3,6 @@ use Prim.Native.Nat.{ℕ}
 use mathlib.Core.Bool.{Bool, true, false, _&&_}
 use mathlib.Core.List.{List}
 use lib.ListN.{length, take}
-use lib.Dec.{leb}
 use lib.Ieee.{Float}
 use Rattle.bars.specs.declared.gaps.Gap.{Gap}
 use Rattle.bars.specs.declared.gaps.Gap.the-variants.{NoGap}
@@ -12,6 +11,7 @@ use Rattle.bars.specs.declared.gaps.GapAnswer.the-variants.{Pair, Missing}
 use Rattle.bars.specs.Gaps.{gapAt, gapsOf, GapColumns, written}
 use Rattle.strokes.specs.declared.Stand.{Stand}
 use Rattle.strokes.specs.Lent.{Stores}
+use Rattle.named.specs.ReportQuestions.{question14}
 use Rattle.question4.specs.Question4.{question4}
 use Rattle.reports.specs.declared.gaps.GapInfo.{GapInfo}
 use Rattle.reports.specs.declared.gaps.GapsAnswer.{GapsAnswer}
@@ -52,9 +52,10 @@ pub record GapsAnswered : Type 0 where
 abbrev pub gapsAnswered : GapsAnswer → GapColumns → GapsAnswered
 gapsAnswered r d = record { answer = r; columns = d }
 
--- question 14: each column has at least n places
-unfoldable pub gapsFit : GapColumns → ℕ → Bool
-gapsFit d n = leb n (length (d .kinds)) && (leb n (length (d .values)) && leb n (length (d .covered)))
+-- question 14: each column has a place for each pair
+unfoldable pub gapsFit : GapColumns → List Gap → Bool
+unfolding question14
+gapsFit d gs = question14 gs (length (d .kinds)) && (question14 gs (length (d .values)) && question14 gs (length (d .covered)))
 
 -- by question 4 and by question 14: a refusal leaves the columns as they were; else each gap's number, values and cover are in its place
 unfoldable pub gapsBy : Bool → Bool → List Gap → GapColumns → GapsAnswered
@@ -68,4 +69,4 @@ unfoldable pub gapsReport : Stand → Stores → GapColumns → GapsAnswered
 unfolding gapsBy gapsFit question4 gapsOf keptPrices
 gapsReport s m d =
     let gs = gapsOf (keptPrices s m) in
-    gapsBy (question4 s m) (gapsFit d (length gs)) gs d
+    gapsBy (question4 s m) (gapsFit d gs) gs d

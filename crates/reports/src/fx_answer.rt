@@ -18,7 +18,7 @@ use super::fx_windows::step_windows;
 use named::kept;
 use strokes::Stand;
 
-// How many fractals are listed. Beside a refusal's number it is 0.
+// How many fractals are listed, here and by ubi_fxs. Beside a refusal's number it is 0.
 pub struct FxListAnswer {
     pub failed: u64,
     pub count: usize,

@@ -18,6 +18,7 @@ pub use asked_measures::MeasuresAnswer;
 mod finished;
 mod gaps;
 mod ubi;
+mod ubi_list;
 
 pub use asked_measures::measures_at;
 pub use asked_raw_bars::RawBarsAnswer;
@@ -38,3 +39,4 @@ pub use measures::Measures;
 pub use ubi::FractalBars;
 pub use ubi::UbiAnswer;
 pub use ubi::get_ubi;
+pub use ubi_list::ubi_fxs;

@@ -37,9 +37,9 @@ pub struct FractalBars {
     pub right: Bar,
 }
 
-// UBI of the source, its lists by their lengths: `bars` are the stand's unfinished bars, `raw` its kept raw
-// bars, and `fractals` those of the unfinished bars, of which `first` is the first. Beside a refusal's number
-// all is zero.
+// UBI of the source, its lists by their lengths: `bars` are the stand's unfinished bars and `raw` its kept raw
+// bars, both of which stand in the lent stores; `fractals` are those of the unfinished bars, of which `first` is
+// the first, and ubi_fxs lists them. Beside a refusal's number all is zero.
 pub struct UbiAnswer {
     pub failed: u64,
     pub direction: Direction,
@@ -326,7 +326,8 @@ fn summary(
     summed(direction, h, l, m, n, count, first)
 }
 
-// Of any stand.
+// Of any stand. Of UBI it gives the direction, the high and the low with their bars, the first fractal, and how long the
+// three lists are. The lists themselves: the unfinished and the raw bars are in the lent stores, the fractals in ubi_fxs.
 pub fn get_ubi(
     stand: Stand,
     rt: &[i64],
