@@ -1,25 +1,26 @@
-// The calls. Each contract is that of the function called, of the stand that the rows hold; it speaks of rows that are there, and with
-// rows missing a call is as safe and hands nothing over.
+// The calls. A call that answers a number above 0 before it has fed a bar leaves all lent memory as it was; rows that are missing are answered by a number too: 4 where no stand can be read, 14 where
+// an answer has no place.
 ghost use mathlib.Core.Path.{_≡_};
 ghost use Prim.Native.Nat.{_≤_};
 ghost use lib.ListN.{length};
 ghost use Rattle.stores.specs.Stores.{rawBars};
-ghost use Rattle.strokes.specs.Lent.{before, after};
-ghost use Rattle.sound.specs.FreshStand.{freshOf};
-ghost use Rattle.feed.specs.PortCalls.{FeedIs};
-ghost use Rattle.batch.specs.BatchCalls.{BatchIs};
-ghost use Rattle.czsc_c.specs.Handed.{answerAfter, roomsWith, barWith, toldAfter, WithRows};
-ghost use Rattle.strokes.specs.Packed.{packed, packedBefore, packedAfter};
 ghost use Rattle.stores.specs.Lent.{rawBefore};
+ghost use Rattle.strokes.specs.Lent.{held, before, after};
+ghost use Rattle.strokes.specs.Packed.{packed};
+ghost use Rattle.sound.specs.StandSound.{IsSound};
+ghost use Rattle.sound.specs.FreshStand.{freshOf};
+ghost use Rattle.batch.specs.BatchCalls.{BatchIs};
+ghost use Rattle.czsc_c.specs.Handed.{roomsWith, barWith, standHanded, freshHanded, failedBefore, FedHanded, UpdateHanded, failedFirst, SumsHanded, BatchHanded};
 use crate::handed::hand_over;
 use crate::handed::hand_over_all;
 use bars::Bar;
-use feed::Czsc;
 use strokes::Rooms;
+use strokes::Stand;
 use strokes::pack;
+use strokes::rows_there;
 use strokes::unpack;
 
-// A fresh analyzer, whose stand is packed: the number of the first of questions 1 to 3 that is answered "no", or 0.
+// A fresh analyzer, whose stand is packed: questions 1 to 3, then 14.
 #[no_mangle]
 pub extern "C" fn czsc_fresh(
     minimum: usize,
@@ -30,7 +31,7 @@ pub extern "C" fn czsc_fresh(
     numbers: &mut [[usize; 8]],
     counts: &mut [[usize; 65]],
 ) -> u64
-    ensures { λ f. ⌜ (f ≡ (freshOf minimum most (roomsWith raw unfinished strokes)) .refused) × (1 ≤ length (now (numbers .entry)) → 2 ≤ length (now (counts .entry)) → packedAfter numbers counts ≡ (freshOf minimum most (roomsWith raw unfinished strokes)) .stand) ⌝ }
+    ensures { λ f. ⌜ standHanded f (now (numbers .exit)) (now (counts .exit)) ≡ freshHanded (freshOf minimum most (roomsWith raw unfinished strokes)) (now (numbers .entry)) (now (counts .entry)) ⌝ }
 {
     let rooms = Rooms {
         raw,
@@ -38,12 +39,120 @@ pub extern "C" fn czsc_fresh(
         strokes,
     };
     let r = sound::fresh(minimum, most, rooms);
+    let failed = r.refused;
+    if failed != 0 {
+        return failed;
+    }
+    if !rows_there(numbers, counts) {
+        return 14;
+    }
     let stand = r.stand;
     pack(stand, numbers, counts);
-    r.refused
+    0
 }
 
-// A feed of one bar to the packed stand: the number of the first question that is answered "no", or 0.
+// What a feed is refused with before the bar is looked at: 4 where no stand is there or it is not sound, 14 where its answer has no place.
+fn failed_before(
+    numbers: &[[usize; 8]],
+    counts: &[[usize; 65]],
+    events: &[[u64; 3]],
+    rt: &[i64],
+    ri: &[i32],
+    rp: &[[f64; 6]],
+    ut: &[i64],
+    ui: &[i32],
+    up: &[[f64; 6]],
+    uc: &[usize],
+    ue: &[[i64; 101]],
+    st: &[i64],
+    si: &[i32],
+    sp: &[[f64; 6]],
+    sc: &[usize],
+    se: &[[i64; 101]],
+    fs: &[[i64; 6]],
+    fp: &[[f64; 18]],
+) -> u64
+    ensures { λ r. ⌜ r ≡ failedBefore (now (numbers .entry)) (now (counts .entry)) (now (events .entry)) (before rt ri rp ut ui up uc ue st si sp sc se fs fp) ⌝ }
+{
+    if !rows_there(numbers, counts) {
+        return 4;
+    }
+    let stand = unpack(numbers, counts);
+    if !question4::is_sound(
+        stand,
+        rt,
+        ri,
+        rp,
+        ut,
+        ui,
+        up,
+        uc,
+        ue,
+        st,
+        si,
+        sp,
+        sc,
+        se,
+        fs,
+        fp,
+    ) {
+        return 4;
+    }
+    if events.len() < 1 {
+        return 14;
+    }
+    0
+}
+
+// The feed of a packed stand that is sound, with a place for its answer.
+fn update_packed(
+    numbers: &mut [[usize; 8]],
+    counts: &mut [[usize; 65]],
+    events: &mut [[u64; 3]],
+    rt: &mut [i64],
+    ri: &mut [i32],
+    rp: &mut [[f64; 6]],
+    ut: &mut [i64],
+    ui: &mut [i32],
+    up: &mut [[f64; 6]],
+    uc: &mut [usize],
+    ue: &mut [[i64; 101]],
+    st: &mut [i64],
+    si: &mut [i32],
+    sp: &mut [[f64; 6]],
+    sc: &mut [usize],
+    se: &mut [[i64; 101]],
+    fs: &mut [[i64; 6]],
+    fp: &mut [[f64; 18]],
+    b: Bar,
+) -> u64
+    requires { ⌜ (1 ≤ length (now numbers)) × (2 ≤ length (now counts)) × (1 ≤ length (now events)) ⌝ ∗ ⌜ IsSound (packed (now numbers) (now counts)) (held rt ri rp ut ui up uc ue st si sp sc se fs fp) ⌝ }
+    ensures { λ f. ⌜ FedHanded (now (numbers .entry)) (now (counts .entry)) (now (events .entry)) (before rt ri rp ut ui up uc ue st si sp sc se fs fp) b f (now (numbers .exit)) (now (counts .exit)) (now (events .exit)) (after rt ri rp ut ui up uc ue st si sp sc se fs fp) ⌝ }
+{
+    let stand = unpack(numbers, counts);
+    let r = feed::feed_sound(
+        stand,
+        rt,
+        ri,
+        rp,
+        ut,
+        ui,
+        up,
+        uc,
+        ue,
+        st,
+        si,
+        sp,
+        sc,
+        se,
+        fs,
+        fp,
+        b,
+    );
+    hand_over(r, numbers, counts, events)
+}
+
+// A feed of one bar to the packed stand: 4, 14, then questions 5 to 12.
 #[no_mangle]
 pub extern "C" fn czsc_update_bar(
     numbers: &mut [[usize; 8]],
@@ -73,8 +182,31 @@ pub extern "C" fn czsc_update_bar(
     vol: f64,
     amount: f64,
 ) -> u64
-    ensures { λ f. ⌜ WithRows numbers counts events (FeedIs (packedBefore numbers counts) (before rt ri rp ut ui up uc ue st si sp sc se fs fp) (barWith time id «open» close high low vol amount) f (toldAfter events 0) (toldAfter events 1) (toldAfter events 2) (packedAfter numbers counts) (after rt ri rp ut ui up uc ue st si sp sc se fs fp)) ⌝ }
+    ensures { λ f. ⌜ UpdateHanded (now (numbers .entry)) (now (counts .entry)) (now (events .entry)) (before rt ri rp ut ui up uc ue st si sp sc se fs fp) (barWith time id «open» close high low vol amount) f (now (numbers .exit)) (now (counts .exit)) (now (events .exit)) (after rt ri rp ut ui up uc ue st si sp sc se fs fp) ⌝ }
 {
+    let failed = failed_before(
+        numbers,
+        counts,
+        events,
+        rt,
+        ri,
+        rp,
+        ut,
+        ui,
+        up,
+        uc,
+        ue,
+        st,
+        si,
+        sp,
+        sc,
+        se,
+        fs,
+        fp,
+    );
+    if failed != 0 {
+        return failed;
+    }
     let b = Bar {
         time,
         id,
@@ -85,9 +217,10 @@ pub extern "C" fn czsc_update_bar(
         vol,
         amount,
     };
-    let stand = unpack(numbers, counts);
-    let czsc = Czsc { stand };
-    let r = czsc.update_bar(
+    update_packed(
+        numbers,
+        counts,
+        events,
         rt,
         ri,
         rp,
@@ -104,11 +237,91 @@ pub extern "C" fn czsc_update_bar(
         fs,
         fp,
         b,
-    );
-    hand_over(r, numbers, counts, events)
+    )
 }
 
-// A list of bars fed to a fresh analyzer: the number of the first question that is answered "no", or 0.
+// What a list of bars is refused with before the first one is looked at: questions 1 to 3, 14 where stand or sums have no place.
+fn failed_first(
+    minimum: usize,
+    most: usize,
+    rooms: Rooms,
+    numbers: &[[usize; 8]],
+    counts: &[[usize; 65]],
+    sums: &[[u64; 4]],
+) -> u64
+    ensures { λ r. ⌜ r ≡ failedFirst (freshOf minimum most rooms) (now (numbers .entry)) (now (counts .entry)) (now (sums .entry)) ⌝ }
+{
+    let r = sound::fresh(minimum, most, rooms);
+    let failed = r.refused;
+    if failed != 0 {
+        return failed;
+    }
+    if !rows_there(numbers, counts) {
+        return 14;
+    }
+    if sums.len() < 1 {
+        return 14;
+    }
+    0
+}
+
+// A list of bars fed to a fresh analyzer, with places for stand and sums.
+fn feed_packed(
+    minimum: usize,
+    most: usize,
+    rooms: Rooms,
+    numbers: &mut [[usize; 8]],
+    counts: &mut [[usize; 65]],
+    sums: &mut [[u64; 4]],
+    rt: &mut [i64],
+    ri: &mut [i32],
+    rp: &mut [[f64; 6]],
+    ut: &mut [i64],
+    ui: &mut [i32],
+    up: &mut [[f64; 6]],
+    uc: &mut [usize],
+    ue: &mut [[i64; 101]],
+    st: &mut [i64],
+    si: &mut [i32],
+    sp: &mut [[f64; 6]],
+    sc: &mut [usize],
+    se: &mut [[i64; 101]],
+    fs: &mut [[i64; 6]],
+    fp: &mut [[f64; 18]],
+    bt: &[i64],
+    bi: &[i32],
+    bp: &[[f64; 6]],
+) -> u64
+    requires { ⌜ (1 ≤ length (now numbers)) × (2 ≤ length (now counts)) × (1 ≤ length (now sums)) ⌝ }
+    ensures { λ f. ⌜ SumsHanded minimum most rooms (now (numbers .entry)) (now (counts .entry)) (now (sums .entry)) (before rt ri rp ut ui up uc ue st si sp sc se fs fp) (rawBars (rawBefore bt bi bp)) f (now (numbers .exit)) (now (counts .exit)) (now (sums .exit)) (after rt ri rp ut ui up uc ue st si sp sc se fs fp) ⌝ }
+{
+    let r = batch::feed_all(
+        minimum,
+        most,
+        rooms,
+        rt,
+        ri,
+        rp,
+        ut,
+        ui,
+        up,
+        uc,
+        ue,
+        st,
+        si,
+        sp,
+        sc,
+        se,
+        fs,
+        fp,
+        bt,
+        bi,
+        bp,
+    );
+    hand_over_all(r, numbers, counts, sums)
+}
+
+// A list of bars fed to a fresh analyzer: questions 1 to 3, then 14, then what the batch call answers. The rows then tell how far it came.
 #[no_mangle]
 pub extern "C" fn czsc_feed_all(
     minimum: usize,
@@ -138,17 +351,24 @@ pub extern "C" fn czsc_feed_all(
     bi: &[i32],
     bp: &[[f64; 6]],
 ) -> u64
-    ensures { λ f. ⌜ WithRows numbers counts sums (BatchIs minimum most (roomsWith raw unfinished strokes) (before rt ri rp ut ui up uc ue st si sp sc se fs fp) (rawBars (rawBefore bt bi bp)) (answerAfter numbers counts sums f) (after rt ri rp ut ui up uc ue st si sp sc se fs fp)) ⌝ }
+    ensures { λ f. ⌜ BatchHanded minimum most (roomsWith raw unfinished strokes) (now (numbers .entry)) (now (counts .entry)) (now (sums .entry)) (before rt ri rp ut ui up uc ue st si sp sc se fs fp) (rawBars (rawBefore bt bi bp)) f (now (numbers .exit)) (now (counts .exit)) (now (sums .exit)) (after rt ri rp ut ui up uc ue st si sp sc se fs fp) ⌝ }
 {
     let rooms = Rooms {
         raw,
         unfinished,
         strokes,
     };
-    let r = batch::feed_all(
+    let failed = failed_first(minimum, most, rooms, numbers, counts, sums);
+    if failed != 0 {
+        return failed;
+    }
+    feed_packed(
         minimum,
         most,
         rooms,
+        numbers,
+        counts,
+        sums,
         rt,
         ri,
         rp,
@@ -167,6 +387,5 @@ pub extern "C" fn czsc_feed_all(
         bt,
         bi,
         bp,
-    );
-    hand_over_all(r, numbers, counts, sums)
+    )
 }

@@ -2,19 +2,18 @@
 ghost use mathlib.Core.Path.{_≡_};
 ghost use mathlib.Core.List.{[], _∷_};
 ghost use Prim.Native.Nat.{_≤_};
-ghost use lib.ListN.{length, getD};
-ghost use Rattle.strokes.specs.Packed.{packed, packedAfter};
+ghost use lib.ListN.{length, set};
+ghost use Rattle.strokes.specs.Packed.{numbersWith, countsWith};
+ghost use Rattle.czsc_c.specs.Handed.{HandedOver};
 use batch::BatchAnswer;
 use feed::FeedAnswer;
 use strokes::pack;
 
-// One row: strokes made, broken and shed. Nothing is written where it is missing.
+// One row: strokes made, broken and shed.
 fn put_events(events: &mut [[u64; 3]], made: u64, broken: u64, shed: u64)
-    ensures { λ _. ⌜ (1 ≤ length (now (events .entry)) → getD (now (events .exit)) 0 [] ≡ made ∷ broken ∷ shed ∷ []) ⌝ }
+    requires { ⌜ 1 ≤ length (now events) ⌝ }
+    ensures { λ _. ⌜ now (events .exit) ≡ set (now (events .entry)) 0 (made ∷ broken ∷ shed ∷ []) ⌝ }
 {
-    if events.len() < 1 {
-        return;
-    }
     events[0] = [made, broken, shed];
 }
 
@@ -24,38 +23,44 @@ fn widened(n: usize) -> u64
     n as u64
 }
 
-// One row: strokes made, broken and shed, and bars accepted. Nothing is written where it is missing.
+// One row: strokes made, broken and shed, and bars accepted.
 fn put_sums(sums: &mut [[u64; 4]], made: u64, broken: u64, shed: u64, fed: usize)
-    ensures { λ _. ⌜ (1 ≤ length (now (sums .entry)) → getD (now (sums .exit)) 0 [] ≡ made ∷ broken ∷ shed ∷ fed ∷ []) ⌝ }
+    requires { ⌜ 1 ≤ length (now sums) ⌝ }
+    ensures { λ _. ⌜ now (sums .exit) ≡ set (now (sums .entry)) 0 (made ∷ broken ∷ shed ∷ fed ∷ []) ⌝ }
 {
     let n = widened(fed);
-    if sums.len() < 1 {
-        return;
-    }
     sums[0] = [made, broken, shed, n];
 }
 
+// What a feed answered; a refusal writes nothing.
 pub fn hand_over(
     r: FeedAnswer,
     numbers: &mut [[usize; 8]],
     counts: &mut [[usize; 65]],
     events: &mut [[u64; 3]],
 ) -> u64
-    ensures { λ f. ⌜ (f ≡ r .failed) × (1 ≤ length (now (numbers .entry)) → 2 ≤ length (now (counts .entry)) → packedAfter numbers counts ≡ r .stand) × (1 ≤ length (now (events .entry)) → getD (now (events .exit)) 0 [] ≡ r .made ∷ r .broken ∷ r .shed ∷ []) ⌝ }
+    requires { ⌜ (1 ≤ length (now numbers)) × (2 ≤ length (now counts)) × (1 ≤ length (now events)) ⌝ }
+    ensures { λ f. ⌜ HandedOver r (now (numbers .entry)) (now (counts .entry)) (now (events .entry)) f (now (numbers .exit)) (now (counts .exit)) (now (events .exit)) ⌝ }
 {
     let stand = r.stand;
+    let failed = r.failed;
+    if failed != 0 {
+        return failed;
+    }
     pack(stand, numbers, counts);
     put_events(events, r.made, r.broken, r.shed);
-    r.failed
+    failed
 }
 
+// What the batch call answered.
 pub fn hand_over_all(
     r: BatchAnswer,
     numbers: &mut [[usize; 8]],
     counts: &mut [[usize; 65]],
     sums: &mut [[u64; 4]],
 ) -> u64
-    ensures { λ f. ⌜ (f ≡ r .failed) × (1 ≤ length (now (numbers .entry)) → 2 ≤ length (now (counts .entry)) → packedAfter numbers counts ≡ r .stand) × (1 ≤ length (now (sums .entry)) → getD (now (sums .exit)) 0 [] ≡ r .made ∷ r .broken ∷ r .shed ∷ r .fed ∷ []) ⌝ }
+    requires { ⌜ (1 ≤ length (now numbers)) × (2 ≤ length (now counts)) × (1 ≤ length (now sums)) ⌝ }
+    ensures { λ f. ⌜ (f ≡ r .failed) × (now (numbers .exit) ≡ numbersWith (r .stand) (now (numbers .entry))) × (now (counts .exit) ≡ countsWith (r .stand) (now (counts .entry))) × (now (sums .exit) ≡ set (now (sums .entry)) 0 (r .made ∷ r .broken ∷ r .shed ∷ r .fed ∷ [])) ⌝ }
 {
     let stand = r.stand;
     pack(stand, numbers, counts);

@@ -59,7 +59,6 @@ pub reached-sizes : (r : FreshCalls) → (freshOf (r .minimum) (r .most) (r .roo
 reached-sizes r z h =
     sizes-stay (r .calls) ((fresh-passes (begun r) (r .lent) (fresh-sound (r .minimum) (r .most) (r .rooms) (r .lent) z h)) .0)
 
-
 -- ---- where no accepted bar repeats a time, or no element is left out, none is in doubt
 
 -- the clause on the newest raw bar, from all of soundness

@@ -1,4 +1,5 @@
--- The plain machine as the Rust searches: check_bi and the first cut by time, the join from the end fractal's time, dropping by the start fractal's first bar.
+-- The plain machine as the Rust searches: check_bi and the first cut by time, the join from the end fractal's time (the Rust
+-- reads it off the stroke's last bar but one, which that fractal is centred on), dropping by the start fractal's first bar.
 -- The questions are a test `ok` of state and bar. That from a fresh analyzer it takes the same steps as the machine of specs/ is proved in SameMachine.
 -- Assumes nothing.
 use Prim.Native.Nat.{ℕ, _+_, _≤_}

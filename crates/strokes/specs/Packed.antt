@@ -1,9 +1,9 @@
 -- A stand packed in lent rows of numbers, as it is kept between two calls. Definitions only.
 use Prim.Native.Nat.{ℕ}
 use mathlib.Core.List.{List, [], _∷_}
-use lib.ListN.{getD}
-use denote.Ref.{now}
-use Rattle.stores.specs.Lent.{Lent}
+use mathlib.Core.Bool.{Bool, _&&_}
+use lib.Dec.{leb}
+use lib.ListN.{length, getD, set}
 use Rattle.strokes.specs.declared.Stand.{Stand}
 
 -- the stand of these eight numbers and of these numbers of bars and of fractals
@@ -30,9 +30,14 @@ unfoldable pub numbersOf : Stand → List ℕ
 numbersOf s =
     s .minimum ∷ s .most ∷ s .rooms .raw ∷ s .rooms .unfinished ∷ s .rooms .strokes ∷ s .raw ∷ s .unfinished ∷ s .strokes ∷ []
 
--- in a contract: the stand that lies in the rows before a call and after it
-abbrev pub packedBefore : Lent (List ℕ) → Lent (List ℕ) → Stand
-packedBefore ns cs = packed (now (ns .entry)) (now (cs .entry))
+-- the rows with this stand packed in them; every other row stays
+unfoldable pub numbersWith : Stand → List (List ℕ) → List (List ℕ)
+unfolding numbersOf
+numbersWith s ns = set ns 0 (numbersOf s)
 
-abbrev pub packedAfter : Lent (List ℕ) → Lent (List ℕ) → Stand
-packedAfter ns cs = packed (now (ns .exit)) (now (cs .exit))
+unfoldable pub countsWith : Stand → List (List ℕ) → List (List ℕ)
+countsWith s cs = set (set cs 0 (s .bars)) 1 (s .fractals)
+
+-- are the rows that hold a stand there?
+unfoldable pub rowsThere : List (List ℕ) → List (List ℕ) → Bool
+rowsThere ns cs = leb 1 (length ns) && leb 2 (length cs)

@@ -9,6 +9,7 @@ pub use fractal_rows::direction_of;
 pub use fractal_rows::end_index;
 pub use fractal_rows::row_mark;
 pub use packed::pack;
+pub use packed::rows_there;
 pub use packed::unpack;
 pub use raw_store::count_before;
 pub use strokes_store::LastStroke;

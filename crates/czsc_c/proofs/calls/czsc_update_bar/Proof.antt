@@ -1,19 +1,21 @@
+use Rattle.czsc_c.proofs.HandedLaws.{refused-before, passed, fed-then}
+use Rattle.czsc_c.specs.Handed.{barWith}
 use mir.Syntax.{w32, w64}
 use mir.ValLaws.{toZ-ofZ}
-use Rattle.czsc_c.specs.Handed.{barWith}
-use Rattle.czsc_c.proofs.HandedLaws.{fed-packed}
+use Rattle.strokes.specs.Lent.{Stores, held}
+use mathlib.Core.Path.{_≡_, refl, ap, sym, _∙_, subst}
 use borrow.Author.Needs.{needs}
 use Rattle.czsc_c.proofs.calls.czsc_update_bar.Statement.{statement}
 use Rattle.czsc_c.proofs.calls.czsc_update_bar.Tie as tie
+use Rattle.czsc_c.proofs.calls.failed_before.Reads as failed-before-reads
+use Rattle.czsc_c.proofs.calls.update_packed.Reads as update-packed-reads
 
-unpack-requires : tie.Need-unpack-requires
-unpack-requires c κs = search needs
+-- the stores that are lent
+abbrev lent : tie.Start → Stores
+lent s = let a = s .args in held (a .rt) (a .ri) (a .rp) (a .ut) (a .ui) (a .up) (a .uc) (a .ue) (a .st) (a .si) (a .sp) (a .sc) (a .se) (a .fs) (a .fp)
 
-update-bar-requires : tie.Need-update-bar-requires
-update-bar-requires c κs = search needs
-
-hand-over-requires : tie.Need-hand-over-requires
-hand-over-requires c κs = search needs
+failed-before-requires : tie.Need-failed-before-requires
+failed-before-requires c κs = search needs
 
 same-length : tie.Need-same-length
 same-length c = search needs
@@ -25,60 +27,118 @@ same-length-3 : tie.Need-same-length-3
 same-length-3 c = search needs
 
 same-length-4 : tie.Need-same-length-4
-same-length-4 c = c .before .before .before .before .before .before .before .before .before .before .before .before .before .before .before .before .before .before .before .before .before .before .before .rt .given
+same-length-4 c = search needs
 
 same-length-5 : tie.Need-same-length-5
-same-length-5 c = c .before .before .before .before .before .before .before .before .before .before .before .before .before .before .before .before .before .before .before .before .before .before .ri .given
+same-length-5 c = search needs
 
 same-length-6 : tie.Need-same-length-6
-same-length-6 c = c .before .before .before .before .before .before .before .before .before .before .before .before .before .before .before .before .before .before .before .before .before .rp .given
+same-length-6 c = search needs
 
 same-length-7 : tie.Need-same-length-7
-same-length-7 c = c .before .before .before .before .before .before .before .before .before .before .before .before .before .before .before .before .before .before .before .before .ut .given
+same-length-7 c = search needs
 
 same-length-8 : tie.Need-same-length-8
-same-length-8 c = c .before .before .before .before .before .before .before .before .before .before .before .before .before .before .before .before .before .before .before .ui .given
+same-length-8 c = search needs
 
 same-length-9 : tie.Need-same-length-9
-same-length-9 c = c .before .before .before .before .before .before .before .before .before .before .before .before .before .before .before .before .before .before .up .given
+same-length-9 c = search needs
 
 same-length-10 : tie.Need-same-length-10
-same-length-10 c = c .before .before .before .before .before .before .before .before .before .before .before .before .before .before .before .before .before .uc .given
+same-length-10 c = search needs
 
 same-length-11 : tie.Need-same-length-11
-same-length-11 c = c .before .before .before .before .before .before .before .before .before .before .before .before .before .before .before .ue .given
+same-length-11 c = search needs
 
 same-length-12 : tie.Need-same-length-12
-same-length-12 c = c .before .before .before .before .before .before .before .before .before .before .before .before .before .before .st .given
+same-length-12 c = search needs
 
 same-length-13 : tie.Need-same-length-13
-same-length-13 c = c .before .before .before .before .before .before .before .before .before .before .before .before .before .si .given
+same-length-13 c = search needs
 
 same-length-14 : tie.Need-same-length-14
-same-length-14 c = c .before .before .before .before .before .before .before .before .before .before .before .before .sp .given
+same-length-14 c = search needs
 
 same-length-15 : tie.Need-same-length-15
-same-length-15 c = c .before .before .before .before .before .before .before .before .before .before .before .sc .given
+same-length-15 c = search needs
 
 same-length-16 : tie.Need-same-length-16
-same-length-16 c = c .before .before .before .before .before .before .before .before .before .se .given
+same-length-16 c = search needs
 
 same-length-17 : tie.Need-same-length-17
-same-length-17 c = c .before .before .before .before .before .before .before .before .fs .given
+same-length-17 c = search needs
 
 same-length-18 : tie.Need-same-length-18
-same-length-18 c = c .before .before .before .before .before .before .before .fp .given
+same-length-18 c = search needs
 
 returns : tie.Need-returns
-returns c = λ h k l. let w = c .before .before .before .before .before .before .before .before .before .before .before .before .before .before .before .before .before .before .before .before .before .before .before .before .before .before .before .before .before .before .before .before .before .before .before .before .before .before .before .before .before .before .before .before .before in let a = w .args in let o = c .before .before .before .hand-over .ensures in fed-packed _ (c .before .before .before .before .before .before .before .before .before .before .before .before .before .before .before .before .before .before .before .before .before .before .before .before .before .before .before .before .before .before .before .before .before .before .before .before .before .before .before .before .unpack .ensures h k) (λ i. barWith (toZ-ofZ w64 (a .time) (w .fits .time) i) (toZ-ofZ w32 (a .id) (w .fits .id) i) (a .«open») (a .close) (a .high) (a .low) (a .vol) (a .amount)) (c .before .before .before .before .before .before .before .before .before .before .before .before .before .before .before .before .before .before .before .before .before .before .before .before .update-bar .ensures .0) (o .0) (o .1 h k) (o .2 l)
+returns c = let s = c .before .before .before .before .before .before .before .before .before .before .before .before .before .before .before .before .before .before .before .before .before .before in let a = s .args in refused-before (a .numbers .now) (a .counts .now) (a .events .now) (lent s) _ _ (c .before .failed-before .ensures) (c .if1 .taken)
+
+update-packed-requires : tie.Need-update-packed-requires
+update-packed-requires c κs = let s = c .before .before .before .before .before .before .before .before .before .before .before .before .before .before .before .before .before .before .before .before .before .before .before .before .before .before .before .before .before .before .before .before .before .before .before .before .before .before .before .before in let a = s .args in passed (a .numbers .now) (a .counts .now) (a .events .now) (lent s) (sym (c .before .before .before .before .before .before .before .before .before .before .before .before .before .before .before .before .before .before .before .failed-before .ensures) ∙ c .before .before .before .before .before .before .before .before .before .before .before .before .before .before .before .before .before .before .if1 .left)
+
+same-length-19 : tie.Need-same-length-19
+same-length-19 c = c .before .before .before .before .before .before .before .before .before .before .before .before .before .before .before .before .before .before .before .numbers .given
+
+same-length-20 : tie.Need-same-length-20
+same-length-20 c = c .before .before .before .before .before .before .before .before .before .before .before .before .before .before .before .before .before .before .counts .given
+
+same-length-21 : tie.Need-same-length-21
+same-length-21 c = c .before .before .before .before .before .before .before .before .before .before .before .before .before .before .before .before .before .events .given
+
+same-length-22 : tie.Need-same-length-22
+same-length-22 c = c .before .before .before .before .before .before .before .before .before .before .before .before .before .before .before .before .rt .given
+
+same-length-23 : tie.Need-same-length-23
+same-length-23 c = c .before .before .before .before .before .before .before .before .before .before .before .before .before .before .before .ri .given
+
+same-length-24 : tie.Need-same-length-24
+same-length-24 c = c .before .before .before .before .before .before .before .before .before .before .before .before .before .before .rp .given
+
+same-length-25 : tie.Need-same-length-25
+same-length-25 c = c .before .before .before .before .before .before .before .before .before .before .before .before .before .ut .given
+
+same-length-26 : tie.Need-same-length-26
+same-length-26 c = c .before .before .before .before .before .before .before .before .before .before .before .before .ui .given
+
+same-length-27 : tie.Need-same-length-27
+same-length-27 c = c .before .before .before .before .before .before .before .before .before .before .before .up .given
+
+same-length-28 : tie.Need-same-length-28
+same-length-28 c = c .before .before .before .before .before .before .before .before .before .before .uc .given
+
+same-length-29 : tie.Need-same-length-29
+same-length-29 c = c .before .before .before .before .before .before .before .before .ue .given
+
+same-length-30 : tie.Need-same-length-30
+same-length-30 c = c .before .before .before .before .before .before .before .st .given
+
+same-length-31 : tie.Need-same-length-31
+same-length-31 c = c .before .before .before .before .before .before .si .given
+
+same-length-32 : tie.Need-same-length-32
+same-length-32 c = c .before .before .before .before .before .sp .given
+
+same-length-33 : tie.Need-same-length-33
+same-length-33 c = c .before .before .before .before .sc .given
+
+same-length-34 : tie.Need-same-length-34
+same-length-34 c = c .before .before .se .given
+
+same-length-35 : tie.Need-same-length-35
+same-length-35 c = c .before .fs .given
+
+same-length-36 : tie.Need-same-length-36
+same-length-36 c = c .fp .given
+
+returns-2 : tie.Need-returns-2
+returns-2 c = let s = c .before .before .before .before .before .before .before .before .before .before .before .before .before .before .before .before .before .before .before .before .before .before .before .before .before .before .before .before .before .before .before .before .before .before .before .before .before .before .before .before .before .before .before .before .before .before .before .before .before .before .before .before .before .before .before .before .before .before .before .before .before in let a = s .args in fed-then (a .numbers .now) (a .counts .now) (a .events .now) (lent s) _ (λ i. barWith (toZ-ofZ w64 (a .time) (s .fits .time) i) (toZ-ofZ w32 (a .id) (s .fits .id) i) (a .«open») (a .close) (a .high) (a .low) (a .vol) (a .amount)) (sym (c .before .before .before .before .before .before .before .before .before .before .before .before .before .before .before .before .before .before .before .before .before .before .before .before .before .before .before .before .before .before .before .before .before .before .before .before .before .before .before .before .failed-before .ensures) ∙ c .before .before .before .before .before .before .before .before .before .before .before .before .before .before .before .before .before .before .before .before .before .before .before .before .before .before .before .before .before .before .before .before .before .before .before .before .before .before .before .if1 .left) (c .before .before .before .before .before .before .before .before .before .before .before .before .before .before .before .before .before .before .before .before .update-packed .ensures)
 
 pub czsc-update-bar-spec : {M : Type 1} → statement M
 czsc-update-bar-spec =
     tie.close
     (tie.spec
-    unpack-requires
-    update-bar-requires
-    hand-over-requires
+    failed-before-requires
     same-length
     same-length-2
     same-length-3
@@ -97,4 +157,24 @@ czsc-update-bar-spec =
     same-length-16
     same-length-17
     same-length-18
-    returns)
+    returns
+    update-packed-requires
+    same-length-19
+    same-length-20
+    same-length-21
+    same-length-22
+    same-length-23
+    same-length-24
+    same-length-25
+    same-length-26
+    same-length-27
+    same-length-28
+    same-length-29
+    same-length-30
+    same-length-31
+    same-length-32
+    same-length-33
+    same-length-34
+    same-length-35
+    same-length-36
+    returns-2)

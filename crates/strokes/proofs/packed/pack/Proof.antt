@@ -1,13 +1,17 @@
-use Rattle.strokes.proofs.PackedRows.{packed-is}
+use mathlib.Core.Path.{refl}
+use Rattle.strokes.specs.Packed.{numbersOf, numbersWith, countsWith}
 use borrow.Author.Needs.{needs}
 use Rattle.strokes.proofs.packed.pack.Statement.{statement}
 use Rattle.strokes.proofs.packed.pack.Tie as tie
 
-put-numbers-requires : tie.Need-put-numbers-requires
-put-numbers-requires c κs = search needs
+slice-set-from-numbers : tie.Need-slice-set-from-numbers
+slice-set-from-numbers c = search needs
 
-put-counts-requires : tie.Need-put-counts-requires
-put-counts-requires c κs = search needs
+slice-set-from-bars : tie.Need-slice-set-from-bars
+slice-set-from-bars c = search needs
+
+slice-set-from-fractals : tie.Need-slice-set-from-fractals
+slice-set-from-fractals c = search needs
 
 same-length : tie.Need-same-length
 same-length c = search needs
@@ -16,8 +20,16 @@ same-length-2 : tie.Need-same-length-2
 same-length-2 c = search needs
 
 returns : tie.Need-returns
-returns c = λ h k. packed-is (c .before .before .before .before .before .before .args .stand) _ _ (c .before .before .before .before .put-numbers .ensures h) (c .before .put-counts .ensures k)
+unfolding numbersWith countsWith numbersOf
+returns c = (refl, refl)
 
 pub pack-spec : {M : Type 1} → statement M
 pack-spec =
-    tie.close (tie.spec put-numbers-requires put-counts-requires same-length same-length-2 returns)
+    tie.close
+    (tie.spec
+    slice-set-from-numbers
+    slice-set-from-bars
+    slice-set-from-fractals
+    same-length
+    same-length-2
+    returns)
