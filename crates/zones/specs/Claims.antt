@@ -18,7 +18,7 @@ use Rattle.zones.specs.declared.FakeStroke.{FakeStroke}
 use Rattle.zones.specs.FakeStrokes.{FakesOf, fakes, createFakeBis}
 use Rattle.zones.specs.Zones.{summary, getZsSeq}
 
--- the strokes that were made and neither broken nor shed
+-- the strokes of the last state. That they are those made and neither broken nor shed is a claim of its own (feed, PortClaims: `left`)
 unfoldable pub kept : Settings → List Bar → List Stroke
 unfolding calls
 kept c bs = (calls c bs) .state .strokes
