@@ -112,6 +112,14 @@ int main(void) {
   uint64_t f = all_with(&now, 0, 0, ROOM, 2, 3, 2, full, bt, bi, bp, 3);
   tried++;
   if (f != 8 || now.sums[0][3] != 2) { wrong++; printf("all, the third bar refused: %llu after %llu bars\n", (unsigned long long)f, (unsigned long long)now.sums[0][3]); }
+  /* a column of another length than was said: 4, the fresh stand, sums of 0, and columns as they were */
+  memcpy(&old, &now, sizeof now);
+  size_t len[15]; memcpy(len, full, sizeof len); len[9] = ROOM - 1;
+  f = all_with(&now, 0, 0, ROOM, 2, 3, 2, len, bt, bi, bp, 3);
+  tried++;
+  if (f != 4 || now.sums[0][3] || now.numbers[0][5] || memcmp(&now.rt, &old.rt, sizeof now - ((char *)&now.rt - (char *)&now))) {
+    wrong++; printf("all, a column too short: %llu\n", (unsigned long long)f);
+  }
   printf("%d calls, %d strokes made, %d wrong\n", tried, (int)made, wrong);
   return wrong != 0;
 }

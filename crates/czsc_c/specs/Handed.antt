@@ -1,6 +1,6 @@
 -- What the calls under C names hand over. Between two calls a stand lies packed in the first row of `numbers` and the first two of `counts` (strokes, Packed); what a feed made, broke and
--- shed goes to the first row of `events`, and the sums of a list of bars, with the number of bars accepted, to the first row of `sums`. All other rows stay. A call that answers a number above 0
--- before it has fed a bar writes nothing. Definitions only.
+-- shed goes to the first row of `events`, and the sums of a list of bars, with the number of bars accepted, to the first row of `sums`. All other rows stay. A fresh
+-- analyzer and a feed that are refused write nothing, nor does a list of bars that fails questions 1 to 3 or 14. Definitions only.
 use Prim.Native.Nat.{ℕ, zero, suc}
 use mathlib.Core.Path.{_≡_}
 use mathlib.Core.Bool.{Bool, true, false, _&&_}

@@ -1,5 +1,5 @@
-// The calls. A call that answers a number above 0 before it has fed a bar leaves all lent memory as it was; rows that are missing are answered by a number too: 4 where no stand can be read, 14 where
-// an answer has no place.
+// The calls. A fresh analyzer and a feed that answer a number above 0 leave all lent memory as it was, and so does a list of bars that fails questions 1 to 3 or 14; behind these it hands over
+// stand and sums whatever it answers. Rows that are missing are answered by a number too: 4 where no stand can be read, 14 where an answer has no place.
 ghost use mathlib.Core.Path.{_≡_};
 ghost use Prim.Native.Nat.{_≤_};
 ghost use lib.ListN.{length};
