@@ -19,10 +19,12 @@ use Rattle.machine.specs.Stand.{State}
 use Rattle.machine.specs.Rising.{Rising}
 use Rattle.machine.proofs.Facts.{RisingFx}
 use Rattle.bars.specs.Questions.{isBar}
-use Rattle.machine.specs.Soundness.{rises, fewStrokes, rawPass, isMerged, mergedPass, barTimes, mergedTimes, fractalTimes, strokeRises, timesRise, isStroke, strokesPass, names, isNamed, asked, inner, elementsKept, listsSound}
+use Rattle.machine.specs.Soundness.{rises, fewStrokes, rawPass, isMerged, fractalMerged, strokeMerged, mergedPass, barTimes, mergedTimes, fractalTimes, strokeRises, timesRise, isStroke, strokesPass, names, isNamed, asked, inner, elementsKept, listsSound}
 use Rattle.machine.proofs.Lists.{All-map, All-zip, All-init}
 use Rattle.machine.proofs.MergingKeepsOrder.{Ordered, ordered-rising}
 use Rattle.machine.proofs.ReplacedBars.{RisingBars, Stands, Fine}
+use Rattle.machine.proofs.MergedRanges.{IsMerged}
+use Rattle.machine.proofs.EventsKeep.{Three, InFractals}
 use Rattle.machine.proofs.StrokeBuilt.{Built, built-stroke}
 use Rattle.machine.proofs.TimeFloor.{AtLeast, Elements, Single, before-elements, Starts}
 use Rattle.machine.proofs.ReachedWell.{Called, Well}
@@ -92,6 +94,19 @@ inners-named : (u : ℤ) (raw : List Bar) (bs : List Stroke) → All Built bs �
 inners-named u raw [] w h c = tt
 inners-named u raw (b ∷ bs) w h c = (inner-named u raw b (w .0) (h .0) (c .0), inners-named u raw bs (w .1) (h .1) (c .1))
 
+-- ---- the bars of fractals
+
+fractal-merged : (f : Fractal) → Three IsMerged f → T (fractalMerged f)
+unfolding fractalMerged
+fractal-merged f t = search and-i
+
+stroke-merged : (b : Stroke) → All IsMerged (b .bars) → InFractals IsMerged b → T (strokeMerged b)
+unfolding strokeMerged
+stroke-merged b a h =
+    and-i (every isMerged (b .bars)) _ (every-of isMerged (b .bars) a)
+    (and-i (every fractalMerged (b .fractals)) _ (every-of fractalMerged (b .fractals) (All-map (b .fractals) fractal-merged (h .0)))
+    (and-i (fractalMerged (b .start)) (fractalMerged (b .end)) (fractal-merged (b .start) (h .1)) (fractal-merged (b .end) (h .2))))
+
 -- ---- each clause, of a state that is well
 
 module _ (most : ℕ) (s : State) (f : Fine s) (w : Well most s) where
@@ -107,7 +122,7 @@ module _ (most : ℕ) (s : State) (f : Fine s) (w : Well most s) where
   unfolding mergedPass
   well-merged =
       and-i (every isMerged (s .unfinished)) _ (every-of isMerged (s .unfinished) (w .kept .merged .0))
-      (every-of (λ b. every isMerged (b .bars)) (s .strokes) (All-map (s .strokes) (λ b a. every-of isMerged (b .bars) a) (w .kept .merged .1)))
+      (every-of strokeMerged (s .strokes) (All-zip (s .strokes) stroke-merged (w .kept .merged .1) (w .kept .fractals)))
 
   well-times : T (timesRise s)
   unfolding timesRise

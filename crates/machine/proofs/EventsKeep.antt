@@ -2,25 +2,26 @@
 -- Assumes nothing.
 use Prim.Native.Nat.{ℕ}
 use mathlib.Core.Path.{_≡_, refl, sym, subst}
-use mathlib.Core.Bool.{Bool, true, false}
+use mathlib.Core.Bool.{Bool, true, false, _&&_}
 use mathlib.Core.List.{List, [], _∷_, _++_}
 use mathlib.Core.Option.{Option, none, some}
 use mathlib.Core.Logic.{_⊎_, inl, inr}
 use lib.Signed.{leZ}
-use Rattle.bars.specs.Lists.{All, init, last}
+use Rattle.bars.specs.Lists.{All, init, last, keepIf}
 use Rattle.bars.specs.Bars.{Merged}
 use Rattle.machine.specs.Fractals.{Fractal, checkFxs}
-use Rattle.machine.specs.Strokes.{Stroke, Found}
+use Rattle.machine.specs.Strokes.{Stroke, Found, candidate}
 use Rattle.machine.specs.Feed.{addFound, Moved, addMade, shedIf}
 use Rattle.machine.specs.ByTime.{from, strokeOf, checkBiByTime, cutAt, cutByTime}
 use Rattle.machine.proofs.MachineByTime.{joined, breakIf, breakLast, moveSome, move}
 use Rattle.machine.specs.Break.{breaks}
-use Rattle.machine.proofs.Lists.{All-append, All-left, All-right, All-keep, All-init}
+use Rattle.machine.proofs.Lists.{All-map, All-append, All-left, All-right, All-keep, All-init}
 use Rattle.machine.proofs.MergingKeepsOrder.{All-from}
 use Rattle.machine.proofs.StrokesChain.{last-snoc}
 use Rattle.machine.proofs.ChainKept.{cut-all}
-use Rattle.machine.proofs.MadeStroke.{MadeFrom, check-outcome}
-use Rattle.machine.proofs.FewerFractals.{nothingFound}
+use Rattle.machine.proofs.MadeStroke.{MadeFrom, check-outcome, best-in, kept-in}
+use Rattle.machine.proofs.FewerFractals.{nothingFound, in-all}
+use Rattle.machine.proofs.FractalWindows.{Window, fxs-windows, window-left, window-mid, window-right}
 
 -- the stroke that is made
 abbrev pub strokeMade : (l : List Merged) (f : Found) → MadeFrom l f → Stroke
@@ -92,6 +93,44 @@ bars-keeps P =
         All-append (λ b. All P (b .bars)) bs (strokeMade l f m ∷ []) (r .1) (stroke-all P l (m .start ∷ m .others) (m .start) (m .end) (r .0), tt),
       );
       takes = λ l bs s r. (joined-all P s l ((All-right (λ b. All P (b .bars)) bs (s ∷ []) (r .1)) .0) (r .0), All-left (λ b. All P (b .bars)) bs (s ∷ []) (r .1));
+    }
+
+-- ---- .. and of the bars of all fractals that strokes hold
+
+abbrev pub Three : (Merged → Type 0) → Fractal → Type 0
+Three P f = P (f .left) × P (f .mid) × P (f .right)
+
+abbrev pub InFractals : (Merged → Type 0) → Stroke → Type 0
+InFractals P b = All (Three P) (b .fractals) × Three P (b .start) × Three P (b .end)
+
+abbrev pub Held : (Merged → Type 0) → List Merged → List Stroke → Type 0
+Held P l bs = Bars P l bs × All (InFractals P) bs
+
+window-three : (P : Merged → Type 0) (f : Fractal) (l : List Merged) → All P l → Window f l → Three P f
+window-three P f [] a w = absurd w
+window-three P f (x ∷ l) a w = (window-left P f (x ∷ l) a w, window-mid P f x l (a .1) w, window-right P f x l (a .1) w)
+
+fxs-three : (P : Merged → Type 0) (l : List Merged) → All P l → All (Three P) (checkFxs l)
+unfolding checkFxs
+fxs-three P l a = All-map (checkFxs l) (λ f w. window-three P f l a w) (fxs-windows none l)
+
+made-three : (P : Merged → Type 0) (l : List Merged) (f : Found) (m : MadeFrom l f) → All P l → InFractals P (strokeMade l f m)
+unfolding strokeOf
+made-three P l f m a =
+    let w = subst (All (Three P)) (m .all) (fxs-three P l a) in
+    let i = kept-in (candidate (m .start)) (m .end) (m .others) (best-in (m .end .mark) (m .end) (keepIf (candidate (m .start)) (m .others)) (m .first)) in (
+      All-keep (Three P) (λ x. leZ (m .start .left .bar .time) (x .mid .bar .time) && leZ (x .mid .bar .time) (m .end .right .bar .time)) (m .start ∷ m .others) w,
+      w .0,
+      in-all (Three P) (m .end) (m .others) (w .1) i,
+    )
+
+pub held-keeps : (P : Merged → Type 0) → Keeps (Held P)
+held-keeps P =
+    let k = bars-keeps P in
+    record {
+      cuts = λ l r. (k .cuts l (r .0), tt);
+      makes = λ l bs f m r. (k .makes l bs f m (r .0), All-append (InFractals P) bs (strokeMade l f m ∷ []) (r .1) (made-three P l f m (r .0 .0), tt));
+      takes = λ l bs s r. (k .takes l bs s (r .0), All-left (InFractals P) bs (s ∷ []) (r .1));
     }
 
 -- what holds of all strokes but the oldest

@@ -29,7 +29,7 @@ use Rattle.machine.proofs.StrokesBefore.{Two, Sides, Inv}
 use Rattle.machine.proofs.StrokesBeforeKept.{shed-inv}
 use Rattle.machine.proofs.ReplacedBars.{Stands, Fine, Fed, fed, at-all, last-raw, last-some, step-fine}
 use Rattle.machine.proofs.MergedRanges.{IsMerged, merge-passes, fold-passes}
-use Rattle.machine.proofs.EventsKeep.{move-keeps, Bars, bars-keeps, All-shed}
+use Rattle.machine.proofs.EventsKeep.{move-keeps, Bars, bars-keeps, InFractals, Held, held-keeps, All-shed}
 use Rattle.machine.proofs.StrokeBuilt.{Built, built-keeps}
 use Rattle.machine.proofs.TimeFloor.{Elements, two-single, Floor, floor-keeps, Floors, floors-keeps, floors-change, floors-shed, floor-shed, least-merged, least-fold, elements-merged, elements-fold, single-merged, single-fold, last-elements}
 use Rattle.machine.proofs.ElementsNamed.{names-more, names-last, names-swap, names-drop, at-keep, at-names}
@@ -47,6 +47,7 @@ pub record Kept (u : ℤ) (raw : List Bar) (l : List Merged) (bs : List Stroke) 
   pub floors : Floors l bs
   pub named : Bars (Called u raw) l bs
   pub merged : Bars IsMerged l bs
+  pub fractals : All (InFractals IsMerged) bs
   pub built : All Built bs
   pub raws : All (λ r. T (isBar r)) raw
 
@@ -75,6 +76,7 @@ later-kept u s b k ok h early =
       floors = floors-change (s .strokes) l (mergeIn l b) (b .time) early (λ t e a. least-merged t l b e a) (k .floors);
       named = (elements-merged (λ t. T (leZ u t) → T (names raw t)) l b (λ e. names-last (s .raw) b) (c .0), c .1);
       merged = (merge-passes l b (k .merged .0) ok, k .merged .1);
+      fractals = k .fractals;
       built = k .built;
       raws = All-append (λ r. T (isBar r)) (s .raw) (b ∷ []) (k .raws) (ok, tt);
     }
@@ -113,6 +115,7 @@ again-kept u raw raw' p k bs b w i ok h f n rs =
             (All-append (λ y. T (isBar y)) ys (b ∷ []) (at-keep (λ y. T (isBar y)) raw (init (k .elements)) (w .raws)) (ok, tt)),
         w .merged .1,
       );
+      fractals = w .fractals;
       built = w .built;
       raws = rs;
     }
@@ -127,6 +130,7 @@ none-kept u raw raw' bs b w i ok h f n rs =
       floors = floors-change bs [] (mergeIn [] b) (b .time) (i .early) (λ t e a. least-merged t [] b e tt) (w .floors);
       named = (elements-merged (λ t. T (leZ u t) → T (names raw' t)) [] b (λ e. n) tt, c .1);
       merged = (merge-passes [] b tt ok, w .merged .1);
+      fractals = w .fractals;
       built = w .built;
       raws = rs;
     }
@@ -166,7 +170,8 @@ move-kept n u minimum raw l bs i w =
       low = (move-keeps _ (floor-keeps n u) minimum l bs ((i, w .built), w .low)) .1;
       floors = (move-keeps _ (floors-keeps n) minimum l bs ((i, w .built), w .floors)) .1;
       named = move-keeps (Bars (Called u raw)) (bars-keeps (Called u raw)) minimum l bs (w .named);
-      merged = move-keeps (Bars IsMerged) (bars-keeps IsMerged) minimum l bs (w .merged);
+      merged = (move-keeps (Held IsMerged) (held-keeps IsMerged) minimum l bs (w .merged, w .fractals)) .0;
+      fractals = (move-keeps (Held IsMerged) (held-keeps IsMerged) minimum l bs (w .merged, w .fractals)) .1;
       built = (move-keeps _ (built-keeps n) minimum l bs (i, w .built)) .1;
       raws = w .raws;
     }
@@ -178,6 +183,7 @@ shed-kept t u raw l bs w =
       floors = floors-shed t l bs (w .floors);
       named = (w .named .0, All-shed (λ b. All (Called u raw) (b .bars)) t bs (w .named .1));
       merged = (w .merged .0, All-shed (λ b. All IsMerged (b .bars)) t bs (w .merged .1));
+      fractals = All-shed (InFractals IsMerged) t bs (w .fractals);
       built = All-shed Built t bs (w .built);
       raws = w .raws;
     }
@@ -199,6 +205,7 @@ drop-kept n u raw l (b ∷ bs) i w =
       named = bars-map (Called u raw) (Called v (dropEarly (b ∷ bs) raw)) l (b ∷ bs)
           (λ k a. All-map (k .elements) (λ t g h. names-drop b bs t raw h (g (times.le-trans u v t (w .low .strokes .0) h))) a) (w .named);
       merged = w .merged;
+      fractals = w .fractals;
       built = w .built;
       raws = All-skip (λ r. T (isBar r)) (λ r. ltZ (r .time) v) raw (w .raws);
     }
@@ -298,6 +305,6 @@ start-well most =
     record {
       floor = firstTime;
       reach = λ b ok n. and-l (leZ firstTime (b .time)) (leZ (b .time) lastTime) (and-l (question5 b) _ (and-l (question5 b && _) _ ok));
-      kept = record { low = record { bars = tt; strokes = tt; single = tt }; floors = tt; named = (tt, tt); merged = (tt, tt); built = tt; raws = tt };
+      kept = record { low = record { bars = tt; strokes = tt; single = tt }; floors = tt; named = (tt, tt); merged = (tt, tt); fractals = tt; built = tt; raws = tt };
       few = omega arith;
     }

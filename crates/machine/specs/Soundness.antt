@@ -68,9 +68,19 @@ unfoldable pub isMerged : Merged → Bool
 unfolding question5 question6 question8 fromZero
 isMerged k = (question5 (k .bar) && question6 (k .bar)) && (question8 (k .bar) && (fromZero (k .bar .vol) && fromZero (k .bar .amount)))
 
+-- .. so do the three of a fractal
+unfoldable pub fractalMerged : Fractal → Bool
+unfolding isMerged
+fractalMerged f = isMerged (f .left) && (isMerged (f .mid) && isMerged (f .right))
+
+-- a stroke's own, and those of every fractal that it holds
+unfoldable pub strokeMerged : Stroke → Bool
+unfolding every isMerged fractalMerged
+strokeMerged b = every isMerged (b .bars) && (every fractalMerged (b .fractals) && (fractalMerged (b .start) && fractalMerged (b .end)))
+
 unfoldable pub mergedPass : State → Bool
-unfolding every isMerged
-mergedPass s = every isMerged (s .unfinished) && every (λ b. every isMerged (b .bars)) (s .strokes)
+unfolding every isMerged strokeMerged
+mergedPass s = every isMerged (s .unfinished) && every strokeMerged (s .strokes)
 
 -- ---- times rise strictly in each list
 

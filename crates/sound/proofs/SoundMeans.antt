@@ -2,14 +2,14 @@
 use Prim.Native.Nat.{ℕ, zero, suc, _+_, _-_, _*_, _/_, _≤_, _<_, min}
 use native.Mathlib.Nat.{zero-add}
 use native.Mathlib.Omega.{arith}
-use mathlib.Core.Path.{_≡_, refl, ap, sym, _∙_}
+use mathlib.Core.Path.{_≡_, refl, ap, sym, _∙_, subst}
 use mathlib.Core.Bool.{Bool, true, false, _&&_}
 use mathlib.Core.List.{List, [], _∷_, map}
 use mathlib.Core.Option.{none}
 use lib.ListN.{length, take, drop, getD, length-take, length-drop}
 use lib.Seq.{length-take-le, take-take}
 use lib.IntN.{ℤ}
-use lib.Dec.{T, leb, ltb}
+use lib.Dec.{T, leb, ltb, leb→le}
 use lib.Ieee.{Float}
 use lib.Ieee.Fits.{and-i, and-l, and-r}
 use borrow.Author.Tests.{le-ltb, lt-ltb, ltb-true, ltb-false}
@@ -21,30 +21,34 @@ use Rattle.stores.proofs.Columns.{zip-take, zip-drop, zip-length}
 use Rattle.stores.proofs.KeptBars.{map-take}
 use Rattle.machine.specs.Fractals.{Fractal}
 use Rattle.machine.specs.Strokes.{Stroke}
-use Rattle.machine.specs.Soundness.{fewerFractals, barTimes, isMerged, rises, strokeRises, sameFractal, isStroke, isNamed, inner}
+use Rattle.machine.specs.Soundness.{fewerFractals, barTimes, fractalMerged, strokeMerged, rises, strokeRises, sameFractal, isStroke, isNamed, inner}
 use Rattle.strokes.specs.StateRead.{rowFractal, storedFractals, noFractal, strokeWith, strokesWith, total}
 use Rattle.strokes.specs.Lent.{fractalStore}
 use Rattle.strokes.proofs.BareStates.{map-drop}
-use Rattle.sound.specs.Code.SoundStand.{inTime, timesPass, mergedRow, smallCount, isTime, namedRows, topRow, alternating, endsHeld, middleTimes, fractalColumns, strokeColumns, strokesColumns}
+use Rattle.sound.specs.Code.SoundStand.{inTime, timesPass, mergedRow, smallCount, isTime, namedRows, topRow, alternating, endsHeld, middleTimes, stampsPass, barsPass, fractalColumns, strokeColumns, strokesColumns}
 use Rattle.arith.proofs.Tests.{and-assoc, same}
-use Rattle.sound.proofs.SoundReads.{and-swap, Rows, rows-of, merged-times, merged-every, merged-elements, merged-length, named-elements, merged-take, merged-drop, init-take, fractal-middles}
+use Rattle.sound.proofs.SoundReads.{and-swap, Rows, rows-of, merged-times, merged-every, merged-elements, merged-length, named-elements, merged-take, merged-drop, init-take, fractal-middles, fractals-every}
+use Rattle.sound.proofs.SoundScans.{every-at}
 use Rattle.sound.proofs.SoundEnds.{marks-are, ends-are, ends-none}
 
 -- ---- flags in another order
 
-module _ (i p r m f a e n c : Bool) where
+-- h follows from e, s and q: a stroke's ends are two of its fractals
+module _ (i p s q h r m f a e n c : Bool) (ends-too : T e → T s → T q → T h) where
   -- as the clauses ask a stroke
   clausesOf : Bool
-  clausesOf = (i && p) && ((r && m) && (((f && a) && e) && (n && c)))
+  clausesOf = ((i && p) && ((s && q) && h)) && ((r && m) && (((f && a) && e) && (n && c)))
 
   -- as its columns are asked
   columnsOf : Bool
-  columnsOf = f && ((r && i) && (p && (c && ((m && (a && e)) && n))))
+  columnsOf = f && ((r && i) && (p && (c && (((m && s) && (q && (a && e))) && n))))
 
   -- each of them
   record Parts : Type 0 where
     in-time : T i
     prices : T p
+    stamps : T s
+    rows : T q
     rise : T r
     middles : T m
     four : T f
@@ -55,28 +59,28 @@ module _ (i p r m f a e n c : Bool) where
 
   of-clauses : T clausesOf → Parts
   unfolding clausesOf
-  of-clauses h = search (and-l, and-r) depth 9
+  of-clauses w = search (and-l, and-r) depth 9
 
   of-columns : T columnsOf → Parts
   unfolding columnsOf
-  of-columns h = search (and-l, and-r) depth 9
+  of-columns w = search (and-l, and-r) depth 9
 
   to-clauses : Parts → T clausesOf
   unfolding clausesOf
-  to-clauses h = search and-i depth 9
+  to-clauses w = let t : T h = ends-too (w .ends) (w .stamps) (w .rows) in search and-i depth 9
 
   to-columns : Parts → T columnsOf
   unfolding columnsOf
-  to-columns h = search and-i depth 9
+  to-columns w = search and-i depth 9
 
   clauses-columns : clausesOf ≡ columnsOf
-  clauses-columns = same clausesOf columnsOf (λ h. to-columns (of-clauses h)) (λ h. to-clauses (of-columns h))
+  clauses-columns = same clausesOf columnsOf (λ w. to-columns (of-clauses w)) (λ w. to-clauses (of-columns w))
 
 -- ---- one stroke
 
 -- what soundness asks of a stroke whose bars have these numbers of elements, but that it has fewer fractals than bars
 unfoldable pub strokeAsked : List Bar → List ℕ → Stroke → Bool
-strokeAsked raw cs b = every isMerged (b .bars) && (strokeRises b && (isStroke b && (every (isNamed raw) (inner b) && every smallCount cs)))
+strokeAsked raw cs b = strokeMerged b && (strokeRises b && (isStroke b && (every (isNamed raw) (inner b) && every smallCount cs)))
 
 -- a stroke's ends are held
 held : (fs : List (List ℤ)) (fp : List (List Float)) → length fp ≡ length fs
@@ -86,6 +90,23 @@ held fs [] e =
     let l = storedFractals (fractalStore fs []) in
     ends-none fs [] (getD l 0 noFractal) (getD l (2 * (length l / 2) - 1) noFractal) refl
 held fs (p ∷ fp) e = ends-are fs (p ∷ fp) e (omega arith)
+
+fractals-length : (fs : List (List ℤ)) (fp : List (List Float)) → length fp ≡ length fs → length (storedFractals (fractalStore fs fp)) ≡ length fs
+unfolding storedFractals
+fractals-length fs fp e = zip-length rowFractal fs fp (sym e)
+
+-- .. and their three bars pass where those of all its fractals do
+ends-merged : (fs : List (List ℤ)) (fp : List (List Float)) → length fp ≡ length fs → T (endsHeld fp) → T (every stampsPass fs) → T (every barsPass fp)
+    → T (fractalMerged (getD (storedFractals (fractalStore fs fp)) 0 noFractal)
+    && fractalMerged (getD (storedFractals (fractalStore fs fp)) (2 * (length (storedFractals (fractalStore fs fp)) / 2) - 1) noFractal))
+unfolding endsHeld
+ends-merged fs fp e h s q =
+    let l = storedFractals (fractalStore fs fp) in
+    let a : T (every fractalMerged l) = subst T (sym (fractals-every fs fp e)) (and-i (every stampsPass fs) (every barsPass fp) s q) in
+    let k : 1 ≤ length fp = leb→le 1 (length fp) (and-l (leb 1 (length fp)) _ h) in
+    let n : 1 ≤ length l = omega (arith, fractals-length fs fp e) in
+    and-i (fractalMerged (getD l 0 noFractal)) (fractalMerged (getD l (2 * (length l / 2) - 1) noFractal)) (every-at fractalMerged l 0 noFractal a (omega arith))
+    (every-at fractalMerged l (2 * (length l / 2) - 1) noFractal a (omega arith))
 
 -- the elements of all its bars but the first and the last
 inner-named : {ts is : List ℤ} {ps : List (List Float)} {cs : List ℕ} {es : List (List ℤ)} (raw : List Bar) → Rows ts is ps cs es
@@ -103,13 +124,15 @@ inner-named {ts} {is} {ps} {cs} {es} raw w =
 pub stroke-are : {ts is : List ℤ} {ps : List (List Float)} {cs : List ℕ} {es : List (List ℤ)} (raw : List Bar) (fs : List (List ℤ)) (fp : List (List Float))
     → Rows ts is ps cs es → length fp ≡ length fs
     → strokeAsked raw cs (strokeWith (storedFractals (fractalStore fs fp)) (mergedBars (mergedStore ts is ps cs es))) ≡ strokeColumns (barTimes raw) ts ps cs es fs fp
-unfolding strokeAsked strokeWith strokeRises isStroke inner strokeColumns timesPass fractalColumns clausesOf columnsOf
+unfolding strokeAsked strokeWith strokeMerged strokeRises isStroke inner strokeColumns timesPass fractalColumns clausesOf columnsOf
 stroke-are {ts} {is} {ps} {cs} {es} raw fs fp w e =
-    (λ j. merged-every w j
+    let l = storedFractals (fractalStore fs fp) in
+    let ends = fractalMerged (getD l 0 noFractal) && fractalMerged (getD l (2 * (length l / 2) - 1) noFractal) in
+    (λ j. (merged-every w j && (fractals-every fs fp e j && ends))
     && ((rises (merged-times w j) && rises (fractal-middles fs fp e j))
     && (((leb 4 (merged-length w j) && marks-are fs fp e j) && held fs fp e j) && (inner-named raw w j && every smallCount cs))))
-    ∙ clauses-columns (every inTime ts) (every mergedRow ps) (rises ts) (rises (middleTimes fs)) (leb 4 (length ts)) (alternating (map topRow fp)) (endsHeld fp)
-    (namedRows (barTimes raw) (take (length ts - 2) (drop 1 cs)) (take (length ts - 2) (drop 1 es))) (every smallCount cs)
+    ∙ clauses-columns (every inTime ts) (every mergedRow ps) (every stampsPass fs) (every barsPass fp) ends (rises ts) (rises (middleTimes fs)) (leb 4 (length ts)) (alternating (map topRow fp)) (endsHeld fp)
+    (namedRows (barTimes raw) (take (length ts - 2) (drop 1 cs)) (take (length ts - 2) (drop 1 es))) (every smallCount cs) (ends-merged fs fp e)
 
 -- ---- all strokes
 
@@ -117,18 +140,18 @@ stroke-are {ts} {is} {ps} {cs} {es} raw fs fp w e =
 unfoldable pub strokesAsked : List Bar → List ℕ → List Stroke → Bool
 strokesAsked raw cs l =
     every fewerFractals l
-    && (every (λ b. every isMerged (b .bars)) l
+    && (every strokeMerged l
     && (every strokeRises l && (every isStroke l && (every (λ b. every (isNamed raw) (inner b)) l && every smallCount cs))))
 
 -- one stroke and those behind it
 strokes-next : (raw : List Bar) (cs cs' : List ℕ) (b : Stroke) (l : List Stroke)
     → (every fewerFractals (b ∷ l)
-    && (every (λ b. every isMerged (b .bars)) (b ∷ l)
+    && (every strokeMerged (b ∷ l)
     && (every strokeRises (b ∷ l) && (every isStroke (b ∷ l) && (every (λ b. every (isNamed raw) (inner b)) (b ∷ l) && (every smallCount cs && every smallCount cs'))))))
     ≡ ((fewerFractals b && strokeAsked raw cs b) && strokesAsked raw cs' l)
 unfolding every strokeAsked strokesAsked
 strokes-next raw cs cs' b l =
-    order (fewerFractals b) (every isMerged (b .bars)) (strokeRises b) (isStroke b) (every (isNamed raw) (inner b)) (every smallCount cs) (every fewerFractals l) (every (λ b. every isMerged (b .bars)) l)
+    order (fewerFractals b) (strokeMerged b) (strokeRises b) (isStroke b) (every (isNamed raw) (inner b)) (every smallCount cs) (every fewerFractals l) (every strokeMerged l)
     (every strokeRises l) (every isStroke l) (every (λ b. every (isNamed raw) (inner b)) l) (every smallCount cs')
   where
     order : (f m r k n c f' m' r' k' n' c' : Bool) → ((f && f') && ((m && m') && ((r && r') && ((k && k') && ((n && n') && (c && c'))))))
@@ -207,10 +230,6 @@ fractals-drop : (n : ℕ) (fs : List (List ℤ)) (fp : List (List Float)) → dr
 unfolding storedFractals
 fractals-drop n fs fp = sym (zip-drop rowFractal n fs fp)
 
-fractals-length : (fs : List (List ℤ)) (fp : List (List Float)) → length fp ≡ length fs → length (storedFractals (fractalStore fs fp)) ≡ length fs
-unfolding storedFractals
-fractals-length fs fp e = zip-length rowFractal fs fp (sym e)
-
 pub strokes-are : (raw : List Bar) (ns ms : List ℕ) (room : ℕ) (ts is : List ℤ) (ps : List (List Float)) (cs : List ℕ) (es fs : List (List ℤ)) (fp : List (List Float))
     → Sized room ts is ps cs es fs fp → length ns ≡ length ms → total ns ≤ room
     → strokesAsked raw (take (total ns) cs) (strokesWith ns ms (mergedBars (mergedStore ts is ps cs es)) (storedFractals (fractalStore fs fp)))
@@ -236,6 +255,6 @@ strokes-are raw (n ∷ ns) (m ∷ ms) room ts is ps cs es fs fp z e h =
     let more : strokesAsked raw (take t (drop n cs)) l ≡ strokesColumns (barTimes raw) ns ms (drop n ts) (drop n ps) (drop n cs) (drop n es) (drop n fs) (drop n fp) =
     (λ j. strokesAsked raw (take t (drop n cs)) (strokesWith ns ms (merged-drop n (mergedStore ts is ps cs es) j) (fractals-drop n fs fp j)))
     ∙ strokes-are raw ns ms (room - n) (drop n ts) (drop n is) (drop n ps) (drop n cs) (drop n es) (drop n fs) (drop n fp) (sized-behind n z) (omega arith) (omega arith) in
-    ap (λ (y : Bool). every fewerFractals (b ∷ l) && (every (λ b. every isMerged (b .bars)) (b ∷ l) && (every strokeRises (b ∷ l) && (every isStroke (b ∷ l) && (every (λ b. every (isNamed raw) (inner b)) (b ∷ l) && y)))))
+    ap (λ (y : Bool). every fewerFractals (b ∷ l) && (every strokeMerged (b ∷ l) && (every strokeRises (b ∷ l) && (every isStroke (b ∷ l) && (every (λ b. every (isNamed raw) (inner b)) (b ∷ l) && y)))))
     (every-parts smallCount n t cs)
     ∙ strokes-next raw (take n cs) (take t (drop n cs)) b l ∙ (λ j. (few j && one j) && more j)

@@ -19,8 +19,8 @@ use Rattle.stores.proofs.Columns.{zip-take, zip-drop}
 use Rattle.machine.specs.Fractals.{isTop, timeOf}
 use Rattle.strokes.specs.StateRead.{storedFractals, rowBar, rowFractal, fractalOf}
 use Rattle.strokes.specs.Lent.{fractalStore}
-use Rattle.machine.specs.Soundness.{isMerged, barTimes, mergedTimes, fractalTimes, sameTime, names, isNamed, asked, closes, newestIn}
-use Rattle.sound.specs.Code.SoundStand.{inTime, rawRow, mergedRow, isTime, endsIn, skipped, topRow, middleTimes}
+use Rattle.machine.specs.Soundness.{isMerged, fractalMerged, barTimes, mergedTimes, fractalTimes, sameTime, names, isNamed, asked, closes, newestIn}
+use Rattle.sound.specs.Code.SoundStand.{inTime, rawRow, mergedRow, isTime, endsIn, skipped, topRow, middleTimes, stampsPass, barsPass}
 use Rattle.arith.proofs.Tests.{and-assoc}
 
 pub and-swap : (a b c d : Bool) → ((a && b) && (c && d)) ≡ ((a && c) && (b && d))
@@ -218,3 +218,25 @@ unfolding fractalTimes storedFractals middleTimes zipWith rowFractal fractalOf r
 fractal-middles [] fp e = refl
 fractal-middles (t ∷ fs) [] e = absurd (omega arith)
 fractal-middles (t ∷ fs) (p ∷ fp) e = ap (λ (l : List ℤ). getD t 1 (pos 0) ∷ l) (fractal-middles fs fp (omega arith))
+
+-- the three bars of a fractal's row pass
+fractal-row : (t : List ℤ) (p : List Float) → fractalMerged (rowFractal t p) ≡ (stampsPass t && barsPass p)
+unfolding fractalMerged rowFractal fractalOf rowBar stampsPass barsPass withFirst
+fractal-row t p =
+    let a = is-merged-row (getD t 0 (pos 0)) (getD t 3 (pos 0)) (take 6 p) 0 [] in
+    let b = is-merged-row (getD t 1 (pos 0)) (getD t 4 (pos 0)) (take 6 (drop 6 p)) 0 [] in
+    let c = is-merged-row (getD t 2 (pos 0)) (getD t 5 (pos 0)) (take 6 (drop 12 p)) 0 [] in
+    (λ j. a j && (b j && c j))
+    ∙ three (inTime (getD t 0 (pos 0))) (inTime (getD t 1 (pos 0))) (inTime (getD t 2 (pos 0))) (mergedRow (take 6 p)) (mergedRow (take 6 (drop 6 p))) (mergedRow (take 6 (drop 12 p)))
+  where
+    three : (a b c x y z : Bool) → ((a && x) && ((b && y) && (c && z))) ≡ ((a && (b && c)) && (x && (y && z)))
+    three a b c x y z = ap (λ (u : Bool). (a && x) && u) (and-swap b y c z) ∙ and-swap a x (b && c) (y && z)
+
+pub fractals-every : (fs : List (List ℤ)) (fp : List (List Float)) → length fp ≡ length fs
+    → every fractalMerged (storedFractals (fractalStore fs fp)) ≡ (every stampsPass fs && every barsPass fp)
+unfolding storedFractals zipWith every
+fractals-every [] [] e = refl
+fractals-every [] (p ∷ fp) e = absurd (omega arith)
+fractals-every (t ∷ fs) [] e = absurd (omega arith)
+fractals-every (t ∷ fs) (p ∷ fp) e =
+    (λ j. fractal-row t p j && fractals-every fs fp (omega arith) j) ∙ and-swap (stampsPass t) (barsPass p) (every stampsPass fs) (every barsPass fp)

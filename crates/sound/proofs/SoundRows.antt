@@ -1,9 +1,12 @@
 -- What the tests of a row of prices cite: fewer tests that say the same. Assumes nothing.
-use Prim.Native.Nat.{ℕ, zero, suc, _*_}
+use Prim.Native.Nat.{ℕ, zero, suc, _+_, _*_, _<_}
+use native.Mathlib.Omega.{arith}
+use native.Mathlib.Nat.{add-zero}
 use mathlib.Core.Path.{_≡_, refl, _∙_}
 use mathlib.Core.Bool.{Bool, true, false, not, _&&_, cond}
-use mathlib.Core.List.{List}
-use lib.ListN.{getD}
+use mathlib.Core.List.{List, [], _∷_}
+use lib.ListN.{take, drop, getD}
+use lib.Seq.{getD-take, getD-drop}
 use lib.IntN.{ℤ, pos}
 use lib.Dec.{T, eqb}
 use lib.Ieee.{Float, nan, inf, fin, binary64, up, down, lt, eq, le, div, round}
@@ -67,3 +70,12 @@ module _ (p : List Float) (r a v x y : Bool) (e : r ≡ (a && v)) (g : v ≡ (x 
   merged-row-is h k =
       e ∙ (λ j. f j && (g ∙ (λ i. h i && k i)) j)
       ∙ merged-order (isPrice (getD p 0 nan) && isPrice (getD p 1 nan)) (isPrice (getD p 2 nan) && isPrice (getD p 3 nan)) (le (getD p 3 nan) (getD p 2 nan)) (fromZero (getD p 4 nan) && fromZero (getD p 5 nan))
+
+-- the row of a bar that stands from place k on in a longer one
+pub row-from : (p : List Float) (k : ℕ)
+    → mergedRow (getD p k nan ∷ getD p (k + 1) nan ∷ getD p (k + 2) nan ∷ getD p (k + 3) nan ∷ getD p (k + 4) nan ∷ getD p (k + 5) nan ∷ []) ≡ mergedRow (take 6 (drop k p))
+unfolding mergedRow barOf question6 question8
+row-from p k = rw (at 0 (omega arith), add-zero k, at 1 (omega arith), at 2 (omega arith), at 3 (omega arith), at 4 (omega arith), at 5 (omega arith)) refl
+  where
+    at : (i : ℕ) → i < 6 → getD (take 6 (drop k p)) i nan ≡ getD p (k + i) nan
+    at i h = getD-take 6 (drop k p) i nan h ∙ getD-drop k p i nan

@@ -16,7 +16,7 @@ use Rattle.stores.specs.Stores.{rawBars, mergedBars}
 use Rattle.stores.proofs.Columns.{raw-times, merged-length}
 use Rattle.stores.proofs.KeptBars.{map-take}
 use Rattle.strokes.specs.declared.Stand.{Stand}
-use Rattle.machine.specs.Soundness.{isMerged, rises, barTimes, mergedTimes, strokeRises, isStroke, isNamed, asked, inner, newestIn, fewerFractals, countsFit, settingsSound, fewStrokes, rawPass, mergedPass, timesRise, strokesPass, elementsKept, newestLast, listsSound, soundBut, sound}
+use Rattle.machine.specs.Soundness.{isMerged, strokeMerged, rises, barTimes, mergedTimes, strokeRises, isStroke, isNamed, asked, inner, newestIn, fewerFractals, countsFit, settingsSound, fewStrokes, rawPass, mergedPass, timesRise, strokesPass, elementsKept, newestLast, listsSound, soundBut, sound}
 use Rattle.strokes.specs.StateRead.{storedFractals, settingsOf, stateOf, barCounts, fractalCounts, total, storesSized, countsSized, elementsSized, sized}
 use Rattle.strokes.specs.Lent.{Stores}
 use Rattle.strokes.proofs.StoredStates.{kept-raw, kept-unfinished}
@@ -127,7 +127,7 @@ module _ (s : Stand) (m : Stores) (f : Fit s m) where
       let l = take (s .unfinished) (mergedBars (m .unfinished)) in
       let b = (stateOf s m) .strokes in
       let rise = and-l (rises (barTimes raw) && rises (mergedTimes l)) (every strokeRises b) (c .times) in
-      let merged = and-l (every isMerged l) (every (λ b. every isMerged (b .bars)) b) (c .merged) in
+      let merged = and-l (every isMerged l) (every strokeMerged b) (c .merged) in
       let named = and-l (every (isNamed raw) (asked l)) (every (λ b. every (isNamed raw) (inner b)) b) (c .elements) in
       let ra = rises (barTimes raw) in
       let ru = rises (mergedTimes l) in
@@ -186,7 +186,7 @@ module _ (s : Stand) (m : Stores) (lb : length (s .bars) ≡ 65) (lf : length (s
       let l = take (s .unfinished) (mergedBars (m .unfinished)) in
       let b = t .strokes in
       (λ j. (sym (raw-are (s .raw) (s .rooms .raw) (m .raw) (f .raw) (f .few-raw)) j && sym (unfinished-clauses s m f) j) && (sym most-clause j && sym strokes-clauses j))
-      ∙ columns-clauses (rises (barTimes raw)) (every isBar raw) (rises (mergedTimes l)) (every isMerged l) (every smallCount (take (s .unfinished) (m .unfinished .counts))) (newestIn (last raw) l) (every (isNamed raw) (asked l)) (fewStrokes (s .most) t) (every fewerFractals b) (every (λ b. every isMerged (b .bars)) b) (every strokeRises b) (every isStroke b) (every (λ b. every (isNamed raw) (inner b)) b) (every smallCount (take (total (barCounts s)) (m .strokes .counts)))
+      ∙ columns-clauses (rises (barTimes raw)) (every isBar raw) (rises (mergedTimes l)) (every isMerged l) (every smallCount (take (s .unfinished) (m .unfinished .counts))) (newestIn (last raw) l) (every (isNamed raw) (asked l)) (fewStrokes (s .most) t) (every fewerFractals b) (every strokeMerged b) (every strokeRises b) (every isStroke b) (every (λ b. every (isNamed raw) (inner b)) b) (every smallCount (take (total (barCounts s)) (m .strokes .counts)))
       ∙ (λ j. (every smallCount (take (s .unfinished) (m .unfinished .counts)) && every smallCount (take (total (barCounts s)) (m .strokes .counts)))
       && ((sym counts-clauses j && listsSound (s .most) t) && newestLast t))
 

@@ -2,7 +2,7 @@
 // branch, and looks only at the columns that its clause speaks of.
 ghost use mathlib.Core.Path.{_≡_};
 ghost use mathlib.Core.Bool.{false, _&&_};
-ghost use mathlib.Core.List.{[], map};
+ghost use mathlib.Core.List.{[], _∷_, map};
 ghost use Prim.Native.Nat.{_+_, _-_, _≤_, _<_, min};
 ghost use lib.IntN.{pos};
 ghost use lib.ListN.{length, take, drop, getD};
@@ -15,7 +15,7 @@ ghost use Rattle.stores.specs.Code.StoreRows.{rising, placeOf};
 ghost use Rattle.machine.specs.Soundness.{rises, sameTime, isSetting, endsOn};
 ghost use Rattle.strokes.specs.StateRead.{storesSized, rawSized, mergedSized, fractalSized, total};
 ghost use Rattle.strokes.specs.Lent.{fractalsBefore, before};
-ghost use Rattle.sound.specs.Code.SoundStand.{inTime, timesPass, rawRow, mergedRow, smallCount, differ, topRow, alternating, isReal, endsHeld, middleTimes, fractalColumns, atPlace, isTime, namedRows, newestRow, numbersPass, rawColumns, unfinishedColumns, strokeColumns, strokesColumns, frontColumns};
+ghost use Rattle.sound.specs.Code.SoundStand.{inTime, timesPass, rawRow, mergedRow, smallCount, differ, topRow, alternating, isReal, endsHeld, middleTimes, stampsPass, barsPass, fractalColumns, atPlace, isTime, namedRows, newestRow, numbersPass, rawColumns, unfinishedColumns, strokeColumns, strokesColumns, frontColumns};
 ghost use Rattle.sound.specs.StandSound.{storesSound};
 ghost use Rattle.stores.specs.Lent.{rawBefore, mergedBefore};
 use super::fresh_stand::rooms_fit;
@@ -91,23 +91,36 @@ fn is_range(low: f64, high: f64) -> bool
     )
 }
 
-// Questions 6 and 8 of a row.
-fn prices_pass(p: [f64; 6]) -> bool
-    ensures { λ r. ⌜ r ≡ ((isPrice (getD p 0 nan) && isPrice (getD p 1 nan)) && ((isPrice (getD p 2 nan) && isPrice (getD p 3 nan)) && le (getD p 3 nan) (getD p 2 nan))) ⌝ }
+// Questions 6 and 8 of a bar.
+fn prices_pass(open: f64, close: f64, high: f64, low: f64) -> bool
+    ensures { λ r. ⌜ r ≡ ((isPrice «open» && isPrice close) && ((isPrice high && isPrice low) && le low high)) ⌝ }
 {
-    both(both(is_price(p[0]), is_price(p[1])), is_range(p[3], p[2]))
+    both(both(is_price(open), is_price(close)), is_range(low, high))
 }
 
 fn raw_row(p: [f64; 6]) -> bool
     ensures { λ r. ⌜ r ≡ rawRow p ⌝ }
 {
-    both(prices_pass(p), both(is_volume(p[4]), is_volume(p[5])))
+    both(
+        prices_pass(p[0], p[1], p[2], p[3]),
+        both(is_volume(p[4]), is_volume(p[5])),
+    )
+}
+
+// A merged bar's prices, its vol and its amount.
+fn bar_passes(open: f64, close: f64, high: f64, low: f64, vol: f64, amount: f64) -> bool
+    ensures { λ r. ⌜ r ≡ mergedRow («open» ∷ close ∷ high ∷ low ∷ vol ∷ amount ∷ []) ⌝ }
+{
+    both(
+        prices_pass(open, close, high, low),
+        both(from_zero(vol), from_zero(amount)),
+    )
 }
 
 fn merged_row(p: [f64; 6]) -> bool
     ensures { λ r. ⌜ r ≡ mergedRow p ⌝ }
 {
-    both(prices_pass(p), both(from_zero(p[4]), from_zero(p[5])))
+    bar_passes(p[0], p[1], p[2], p[3], p[4], p[5])
 }
 
 pub fn raw_rows_pass(ps: &[[f64; 6]]) -> bool
@@ -247,10 +260,63 @@ fn ends_held(fp: &[[f64; 18]]) -> bool
     both(is_real(p), is_real(q))
 }
 
+// Question 5 of a fractal's three bars.
+fn stamps_in_time(t: &[i64]) -> bool
+    requires { ⌜ 3 ≤ length (now t) ⌝ }
+    ensures { λ r. ⌜ r ≡ stampsPass (now (t .entry)) ⌝ }
+{
+    both(
+        is_in_time(t, 0),
+        both(is_in_time(t, 1), is_in_time(t, 2)),
+    )
+}
+
+fn stamps_pass(fs: &[[i64; 6]]) -> bool
+    ensures { λ r. ⌜ r ≡ every stampsPass (now (fs .entry)) ⌝ }
+{
+    let mut ok = true;
+    let mut i: usize = 0;
+    while i < fs.len() {
+        ok = both(ok, stamps_in_time(&fs[i]));
+        i += 1;
+    }
+    ok
+}
+
+// The prices of a fractal's three bars.
+fn three_bars(p: [f64; 18]) -> bool
+    ensures { λ r. ⌜ r ≡ barsPass p ⌝ }
+{
+    both(
+        bar_passes(p[0], p[1], p[2], p[3], p[4], p[5]),
+        both(
+            bar_passes(p[6], p[7], p[8], p[9], p[10], p[11]),
+            bar_passes(p[12], p[13], p[14], p[15], p[16], p[17]),
+        ),
+    )
+}
+
+// A fractal holds three merged bars of its own, which later merging does not change.
+fn bars_pass(fp: &[[f64; 18]]) -> bool
+    ensures { λ r. ⌜ r ≡ every barsPass (now (fp .entry)) ⌝ }
+{
+    let mut ok = true;
+    let mut i: usize = 0;
+    while i < fp.len() {
+        let p = fp[i];
+        ok = both(ok, three_bars(p));
+        i += 1;
+    }
+    ok
+}
+
 fn fractals_pass(fs: &[[i64; 6]], fp: &[[f64; 18]]) -> bool
     ensures { λ r. ⌜ r ≡ fractalColumns (now (fs .entry)) (now (fp .entry)) ⌝ }
 {
-    both(middles_rise(fs), both(marks_alternate(fp), ends_held(fp)))
+    both(
+        both(middles_rise(fs), stamps_pass(fs)),
+        both(bars_pass(fp), both(marks_alternate(fp), ends_held(fp))),
+    )
 }
 
 // ---- elements name raw bars

@@ -11,12 +11,12 @@ use lib.Dec.{leb, ltb}
 use Rattle.bars.specs.declared.Bar.{Bar}
 use Rattle.bars.specs.Bars.{Merged}
 use Rattle.bars.specs.Lists.{last, every, some-of}
-use Rattle.bars.specs.Questions.{firstFailed}
+use Rattle.bars.specs.Questions.{question5, question6, question8, firstFailed}
 use Rattle.machine.specs.declared.Mark.{Mark}
 use Rattle.machine.specs.Fractals.{Fractal, timeOf, fxOf, taken}
 use Rattle.machine.specs.Strokes.{Stroke}
 use Rattle.machine.specs.Stand.{Settings, State}
-use Rattle.machine.specs.Soundness.{barsOf, fewerFractals, countsFit, fewStrokes, rawPass, isMerged, mergedPass, rises, barTimes, mergedTimes, fractalTimes, strokeRises, timesRise, alternates, sameFractal, isStroke, strokesPass, isNamed, asked, inner, elementsKept, newestLast, settingsSound, listsSound, soundBut, sound}
+use Rattle.machine.specs.Soundness.{barsOf, fewerFractals, countsFit, fewStrokes, rawPass, isMerged, fractalMerged, strokeMerged, mergedPass, rises, barTimes, mergedTimes, fractalTimes, strokeRises, timesRise, alternates, sameFractal, isStroke, strokesPass, isNamed, asked, inner, elementsKept, newestLast, settingsSound, listsSound, soundBut, sound}
 use Rattle.machine.specs.Feed.{Moved, isLater, make, move}
 use Rattle.machine.specs.FeedQuestions.{question10, merged, movedFits, question11, question12, orElse, firstOf, failedAfter4, failed}
 use Rattle.strokes.specs.StateRead.{bareBar, bareFractal, bareStroke, bareState}
@@ -48,15 +48,19 @@ raw-bare : (s : State) → rawPass (bareState s) ≡ rawPass s
 unfolding rawPass bareState
 raw-bare s = refl
 
-stroke-merged : (b : Stroke) → every isMerged ((bareStroke b) .bars) ≡ every isMerged (b .bars)
-unfolding bareStroke
-stroke-merged b = refl
+fractal-merged : (f : Fractal) → fractalMerged (bareFractal f) ≡ fractalMerged f
+unfolding fractalMerged isMerged question5 question6 question8 bareFractal bareBar
+fractal-merged f = refl
+
+stroke-merged : (b : Stroke) → strokeMerged (bareStroke b) ≡ strokeMerged b
+unfolding strokeMerged bareStroke
+stroke-merged b =
+    λ i. every isMerged (b .bars)
+    && (every-map bareFractal fractalMerged fractalMerged fractal-merged (b .fractals) i && (fractal-merged (b .start) i && fractal-merged (b .end) i))
 
 merged-bare : (s : State) → mergedPass (bareState s) ≡ mergedPass s
 unfolding mergedPass bareState
-merged-bare s =
-    ap (λ (t : Bool). every isMerged (s .unfinished) && t)
-    (every-map bareStroke (λ (b : Stroke). every isMerged (b .bars)) (λ (b : Stroke). every isMerged (b .bars)) stroke-merged (s .strokes))
+merged-bare s = ap (λ (t : Bool). every isMerged (s .unfinished) && t) (every-map bareStroke strokeMerged strokeMerged stroke-merged (s .strokes))
 
 times-of-bare : (l : List Fractal) → fractalTimes (map bareFractal l) ≡ fractalTimes l
 unfolding fractalTimes timeOf bareFractal bareBar

@@ -131,9 +131,19 @@ endsHeld fp = leb 1 (length fp) && (isReal (getD fp 0 []) && isReal (getD fp (2 
 unfoldable pub middleTimes : List (List ℤ) → List ℤ
 middleTimes fs = map (λ t. getD t 1 (pos 0)) fs
 
+-- question 5 of the times of a fractal's three bars
+unfoldable pub stampsPass : List ℤ → Bool
+unfolding inTime
+stampsPass t = inTime (getD t 0 (pos 0)) && (inTime (getD t 1 (pos 0)) && inTime (getD t 2 (pos 0)))
+
+-- the rows of its three bars
+unfoldable pub barsPass : List Float → Bool
+unfolding mergedRow
+barsPass p = mergedRow (take 6 p) && (mergedRow (take 6 (drop 6 p)) && mergedRow (take 6 (drop 12 p)))
+
 unfoldable pub fractalColumns : List (List ℤ) → List (List Float) → Bool
-unfolding rises middleTimes alternating topRow endsHeld
-fractalColumns fs fp = rises (middleTimes fs) && (alternating (map topRow fp) && endsHeld fp)
+unfolding rises every middleTimes stampsPass barsPass alternating topRow endsHeld
+fractalColumns fs fp = (rises (middleTimes fs) && every stampsPass fs) && (every barsPass fp && (alternating (map topRow fp) && endsHeld fp))
 
 -- a stroke, where the raw times are rt
 unfoldable pub strokeColumns : List ℤ → List ℤ → List (List Float) → List ℕ → List (List ℤ) → List (List ℤ) → List (List Float) → Bool

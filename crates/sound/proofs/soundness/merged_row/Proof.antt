@@ -1,41 +1,44 @@
-use Rattle.sound.proofs.SoundRows.{merged-row-is}
+use Rattle.sound.specs.Code.SoundStand.{mergedRow}
+use Rattle.bars.specs.Questions.{question6, question8}
+use Rattle.stores.specs.Stores.{barOf}
 use borrow.Author.Needs.{needs}
 use Rattle.sound.proofs.soundness.merged_row.Statement.{statement}
 use Rattle.sound.proofs.soundness.merged_row.Tie as tie
 
-prices-pass-requires : tie.Need-prices-pass-requires
-prices-pass-requires c κs = search needs
+array-read-bar-passes : tie.Need-array-read-bar-passes
+array-read-bar-passes c = search needs
 
-array-read-from-zero : tie.Need-array-read-from-zero
-array-read-from-zero c = search needs
+array-read-bar-passes-2 : tie.Need-array-read-bar-passes-2
+array-read-bar-passes-2 c = search needs
 
-from-zero-requires : tie.Need-from-zero-requires
-from-zero-requires c κs = search needs
+array-read-bar-passes-3 : tie.Need-array-read-bar-passes-3
+array-read-bar-passes-3 c = search needs
 
-array-read-from-zero-2 : tie.Need-array-read-from-zero-2
-array-read-from-zero-2 c = search needs
+array-read-bar-passes-4 : tie.Need-array-read-bar-passes-4
+array-read-bar-passes-4 c = search needs
 
-from-zero-requires-2 : tie.Need-from-zero-requires-2
-from-zero-requires-2 c κs = search needs
+array-read-bar-passes-5 : tie.Need-array-read-bar-passes-5
+array-read-bar-passes-5 c = search needs
 
-both-requires : tie.Need-both-requires
-both-requires c κs = search needs
+array-read-bar-passes-6 : tie.Need-array-read-bar-passes-6
+array-read-bar-passes-6 c = search needs
 
-both-requires-2 : tie.Need-both-requires-2
-both-requires-2 c κs = search needs
+bar-passes-requires : tie.Need-bar-passes-requires
+bar-passes-requires c κs = search needs
 
 returns : tie.Need-returns
-returns c = merged-row-is _ _ _ _ _ _ (c .both2 .ensures) (c .before .both .ensures) (c .before .before .before .before .prices-pass .ensures) (c .before .before .before .from-zero .ensures) (c .before .before .from-zero2 .ensures)
+unfolding mergedRow barOf question6 question8
+returns c = c .bar-passes .ensures
 
 pub merged-row-spec : {M : Type 1} → statement M
 merged-row-spec =
     tie.close
     (tie.spec
-    prices-pass-requires
-    array-read-from-zero
-    from-zero-requires
-    array-read-from-zero-2
-    from-zero-requires-2
-    both-requires
-    both-requires-2
+    array-read-bar-passes
+    array-read-bar-passes-2
+    array-read-bar-passes-3
+    array-read-bar-passes-4
+    array-read-bar-passes-5
+    array-read-bar-passes-6
+    bar-passes-requires
     returns)

@@ -3,6 +3,18 @@ use borrow.Author.Needs.{needs}
 use Rattle.sound.proofs.soundness.raw_row.Statement.{statement}
 use Rattle.sound.proofs.soundness.raw_row.Tie as tie
 
+array-read-prices-pass : tie.Need-array-read-prices-pass
+array-read-prices-pass c = search needs
+
+array-read-prices-pass-2 : tie.Need-array-read-prices-pass-2
+array-read-prices-pass-2 c = search needs
+
+array-read-prices-pass-3 : tie.Need-array-read-prices-pass-3
+array-read-prices-pass-3 c = search needs
+
+array-read-prices-pass-4 : tie.Need-array-read-prices-pass-4
+array-read-prices-pass-4 c = search needs
+
 prices-pass-requires : tie.Need-prices-pass-requires
 prices-pass-requires c κs = search needs
 
@@ -31,6 +43,10 @@ pub raw-row-spec : {M : Type 1} → statement M
 raw-row-spec =
     tie.close
     (tie.spec
+    array-read-prices-pass
+    array-read-prices-pass-2
+    array-read-prices-pass-3
+    array-read-prices-pass-4
     prices-pass-requires
     array-read-is-volume
     is-volume-requires
