@@ -1,10 +1,10 @@
--- The fresh analyzer: its answer by the first question that failed, and that it holds nothing and is sound with every stores of the asked lengths.
+-- The fresh analyzer: its answer by the first question that failed, and that it holds nothing and is sound with the stores that were lent.
 -- Assumes nothing.
 use Prim.Native.Nat.{ℕ, zero, suc}
 use native.Mathlib.Omega.{arith}
-use mathlib.Core.Path.{_≡_, refl, ap, sym, _∙_}
+use mathlib.Core.Path.{_≡_, refl, ap, sym, _∙_, subst}
 use mathlib.Core.Bool.{Bool, true, false, _&&_, cond}
-use lib.Dec.{leb, eqb, leb·zero}
+use lib.Dec.{T, leb, eqb, leb·zero}
 use borrow.Author.Tests.{leb-true, le-leb, eqb-false}
 use Rattle.bars.specs.Lists.{every, last}
 use Rattle.strokes.specs.declared.Rooms.{Rooms}
@@ -15,22 +15,33 @@ use Rattle.machine.specs.Stand.{Settings, fresh}
 use Rattle.machine.specs.Soundness.{isSetting, settingsPass, roomsPass, settingsSound, countsFit, barsOf, fewStrokes, rawPass, mergedPass, rises, barTimes, mergedTimes, timesRise, strokesPass, asked, elementsKept, newestIn, newestLast, listsSound, soundBut, sound}
 use Rattle.strokes.specs.StateRead.{settingsOf, stateOf, barCounts, fractalCounts, strokesWith, total, storesSized, countsSized, elementsSized, sized}
 use Rattle.strokes.specs.Lent.{Stores}
-use Rattle.sound.specs.FreshStand.{isAsked, orDefault, roomsFit, freshFailed, emptyStand, noStand, freshBy, freshOf}
+use Rattle.sound.specs.FreshStand.{isAsked, orDefault, roomsOf, columnsAgree, roomsFit, question3, freshFailed, emptyStand, noStand, freshBy, freshOf}
+use Rattle.sound.specs.StandSound.{storesSound}
+use Rattle.arith.proofs.Tests.{and-false}
 
 -- ---- the answer
 
-pub fresh-yes : (n minimum most : ℕ) (rooms : Rooms) (a b : ℕ) (s : Stand) → n ≡ freshFailed minimum most rooms → n ≡ 0
-    → a ≡ orDefault minimum 6 → b ≡ orDefault most 50 → s ≡ emptyStand a b rooms
-    → _≡_ {A = FreshAnswer} (record { refused = 0; stand = s }) (freshOf minimum most rooms)
-unfolding freshOf freshBy
-fresh-yes n minimum most rooms a b s e z p q h =
-    rw (h, p, q) (ap (λ (k : ℕ). freshBy k minimum most rooms) (sym z ∙ e))
+-- the first question that failed, where the third was asked of the rooms and of the columns
+pub failed-is : (minimum most : ℕ) (m : Stores) (rooms : Rooms) (x y h : Bool) (n : ℕ) → rooms ≡ roomsOf m → x ≡ columnsAgree rooms m → y ≡ roomsFit rooms → h ≡ (x && y)
+    → n ≡ orElse (isAsked minimum) 1 (orElse (isAsked most) 2 (orElse h 3 0)) → n ≡ freshFailed minimum most m
+unfolding freshFailed question3
+failed-is minimum most m rooms x y h n r ex ey eh e =
+    let a : x ≡ columnsAgree (roomsOf m) m = ex ∙ ap (λ (z : Rooms). columnsAgree z m) r in
+    let b : y ≡ roomsFit (roomsOf m) = ey ∙ ap roomsFit r in
+    e ∙ ap (λ (t : Bool). orElse (isAsked minimum) 1 (orElse (isAsked most) 2 (orElse t 3 0))) (eh ∙ (λ i. a i && b i))
 
-pub fresh-no : (n minimum most : ℕ) (rooms : Rooms) (s : Stand) → n ≡ freshFailed minimum most rooms → (n ≡ 0 → ⊥) → s ≡ noStand
-    → _≡_ {A = FreshAnswer} (record { refused = n; stand = s }) (freshOf minimum most rooms)
+pub fresh-yes : (n minimum most : ℕ) (m : Stores) (rooms : Rooms) (a b : ℕ) (s : Stand) → n ≡ freshFailed minimum most m → n ≡ 0 → rooms ≡ roomsOf m
+    → a ≡ orDefault minimum 6 → b ≡ orDefault most 50 → s ≡ emptyStand a b rooms
+    → _≡_ {A = FreshAnswer} (record { refused = 0; stand = s }) (freshOf minimum most m)
 unfolding freshOf freshBy
-fresh-no zero minimum most rooms s e z h = absurd (z refl)
-fresh-no (suc n) minimum most rooms s e z h = rw h (ap (λ (k : ℕ). freshBy k minimum most rooms) e)
+fresh-yes n minimum most m rooms a b s e z r p q h =
+    rw (h, p, q, r) (ap (λ (k : ℕ). freshBy k minimum most m) (sym z ∙ e))
+
+pub fresh-no : (n minimum most : ℕ) (m : Stores) (s : Stand) → n ≡ freshFailed minimum most m → (n ≡ 0 → ⊥) → s ≡ noStand
+    → _≡_ {A = FreshAnswer} (record { refused = n; stand = s }) (freshOf minimum most m)
+unfolding freshOf freshBy
+fresh-no zero minimum most m s e z h = absurd (z refl)
+fresh-no (suc n) minimum most m s e z h = rw h (ap (λ (k : ℕ). freshBy k minimum most m) e)
 
 -- ---- it holds nothing
 
@@ -38,14 +49,14 @@ empty-state : (minimum most : ℕ) (rooms : Rooms) (m : Stores) → stateOf (emp
 unfolding stateOf emptyStand barCounts fractalCounts strokesWith fresh
 empty-state minimum most rooms m = refl
 
-by-failed-state : (minimum most : ℕ) (rooms : Rooms) (m : Stores) (n : ℕ) → stateOf ((freshBy n minimum most rooms) .stand) m ≡ fresh
+by-failed-state : (minimum most : ℕ) (m : Stores) (n : ℕ) → stateOf ((freshBy n minimum most m) .stand) m ≡ fresh
 unfolding freshBy noStand
-by-failed-state minimum most rooms m zero = empty-state (orDefault minimum 6) (orDefault most 50) rooms m
-by-failed-state minimum most rooms m (suc n) = empty-state 0 0 (record { raw = 0; unfinished = 0; strokes = 0 }) m
+by-failed-state minimum most m zero = empty-state (orDefault minimum 6) (orDefault most 50) (roomsOf m) m
+by-failed-state minimum most m (suc n) = empty-state 0 0 (record { raw = 0; unfinished = 0; strokes = 0 }) m
 
-pub fresh-state : (minimum most : ℕ) (rooms : Rooms) (m : Stores) → stateOf ((freshOf minimum most rooms) .stand) m ≡ fresh
+pub fresh-state : (minimum most : ℕ) (m : Stores) → stateOf ((freshOf minimum most m) .stand) m ≡ fresh
 unfolding freshOf
-fresh-state minimum most rooms m = by-failed-state minimum most rooms m (freshFailed minimum most rooms)
+fresh-state minimum most m = by-failed-state minimum most m (freshFailed minimum most m)
 
 -- ---- it is sound
 
@@ -65,18 +76,23 @@ passed true true false e = absurd (omega arith)
 passed true false r e = absurd (omega arith)
 passed false q r e = absurd (omega arith)
 
-fresh-settings : (minimum most : ℕ) (rooms : Rooms) → freshFailed minimum most rooms ≡ 0
-    → settingsSound (settingsOf (emptyStand (orDefault minimum 6) (orDefault most 50) rooms)) ≡ true
-unfolding freshFailed settingsSound settingsOf emptyStand roomsPass settingsPass roomsFit
-fresh-settings minimum most rooms e =
-    let p = passed (isAsked minimum) (isAsked most) (roomsFit rooms) e in
-    rw (p .2, setting minimum 6 (p .0) six, setting most 50 (p .1) fifty)
+fresh-settings : (minimum most : ℕ) (m : Stores) → freshFailed minimum most m ≡ 0
+    → (settingsSound (settingsOf (emptyStand (orDefault minimum 6) (orDefault most 50) (roomsOf m))) ≡ true) × (columnsAgree (roomsOf m) m ≡ true)
+unfolding freshFailed question3 settingsSound settingsOf emptyStand roomsPass settingsPass roomsFit
+fresh-settings minimum most m e =
+    let p = passed (isAsked minimum) (isAsked most) (question3 m) e in
+    let r = both-true (columnsAgree (roomsOf m) m) (roomsFit (roomsOf m)) (p .2) in
+    (rw (r .1, setting minimum 6 (p .0) six, setting most 50 (p .1) fifty), r .0)
   where
     six : isSetting 6 ≡ true
     six = refl
 
     fifty : isSetting 50 ≡ true
     fifty = refl
+
+    both-true : (a b : Bool) → (a && b) ≡ true → (a ≡ true) × (b ≡ true)
+    both-true true b e = (refl, e)
+    both-true false b e = absurd (subst T (sym e) tt)
 
 fresh-lists : (c : Settings) → (countsFit c fresh && listsSound (c .most) fresh) && newestLast fresh ≡ true
 unfolding countsFit listsSound newestLast fresh fewStrokes rawPass mergedPass timesRise strokesPass elementsKept rises barTimes mergedTimes every last asked newestIn barsOf
@@ -91,15 +107,37 @@ empty-sound : (a b : ℕ) (rooms : Rooms) (m : Stores) → settingsSound (settin
 unfolding sound soundBut
 empty-sound a b rooms m h k = rw (empty-counts a b rooms m k, empty-state a b rooms m, h) (fresh-lists (settingsOf (emptyStand a b rooms)))
 
-by-failed : (minimum most : ℕ) (rooms : Rooms) (m : Stores) (n : ℕ) → n ≡ freshFailed minimum most rooms → (freshBy n minimum most rooms) .refused ≡ 0
-    → storesSized ((freshBy n minimum most rooms) .stand) m ≡ true
-    → sized ((freshBy n minimum most rooms) .stand) m && sound (settingsOf ((freshBy n minimum most rooms) .stand)) (stateOf ((freshBy n minimum most rooms) .stand) m) ≡ true
-unfolding freshBy
-by-failed minimum most rooms m zero e z k = empty-sound (orDefault minimum 6) (orDefault most 50) rooms m (fresh-settings minimum most rooms (sym e)) k
-by-failed minimum most rooms m (suc n) e z k = absurd (omega arith)
+-- columns that agree have the recorded lengths
+pub agree-sized : (s : Stand) (m : Stores) (t r : Bool) → r ≡ columnsAgree (s .rooms) m → r ≡ t → storesSized s m ≡ t
+unfolding columnsAgree storesSized
+agree-sized s m t r e h = sym e ∙ h
 
--- a fresh analyzer that was not refused is sound with all stores of its rooms' lengths, whatever they hold
-pub fresh-sound : (minimum most : ℕ) (rooms : Rooms) (m : Stores) → (freshOf minimum most rooms) .refused ≡ 0 → storesSized ((freshOf minimum most rooms) .stand) m ≡ true
-    → sized ((freshOf minimum most rooms) .stand) m && sound (settingsOf ((freshOf minimum most rooms) .stand)) (stateOf ((freshOf minimum most rooms) .stand) m) ≡ true
+by-failed : (minimum most : ℕ) (m : Stores) (n : ℕ) → n ≡ freshFailed minimum most m → (freshBy n minimum most m) .refused ≡ 0
+    → sized ((freshBy n minimum most m) .stand) m && sound (settingsOf ((freshBy n minimum most m) .stand)) (stateOf ((freshBy n minimum most m) .stand) m) ≡ true
+unfolding freshBy emptyStand
+by-failed minimum most m zero e z =
+    let f = fresh-settings minimum most m (sym e) in
+    let s = emptyStand (orDefault minimum 6) (orDefault most 50) (roomsOf m) in
+    empty-sound (orDefault minimum 6) (orDefault most 50) (roomsOf m) m (f .0) (agree-sized s m true true (sym (f .1)) refl)
+by-failed minimum most m (suc n) e z = absurd (omega arith)
+
+-- a fresh analyzer that was not refused is sound with the stores that were lent
+pub fresh-sound : (minimum most : ℕ) (m : Stores) → (freshOf minimum most m) .refused ≡ 0
+    → sized ((freshOf minimum most m) .stand) m && sound (settingsOf ((freshOf minimum most m) .stand)) (stateOf ((freshOf minimum most m) .stand) m) ≡ true
 unfolding freshOf
-fresh-sound minimum most rooms m = by-failed minimum most rooms m (freshFailed minimum most rooms) refl
+fresh-sound minimum most m = by-failed minimum most m (freshFailed minimum most m) refl
+
+-- ---- one that was refused is sound with no stores
+
+no-sound : (m : Stores) → storesSound noStand m ≡ false
+unfolding storesSound sound soundBut settingsSound roomsPass settingsOf noStand emptyStand
+no-sound m = and-false (sized noStand m)
+
+by-refused : (minimum most : ℕ) (m : Stores) (n : ℕ) → ((freshBy n minimum most m) .refused ≡ 0 → ⊥) → storesSound ((freshBy n minimum most m) .stand) m ≡ false
+unfolding freshBy
+by-refused minimum most m zero z = absurd (z refl)
+by-refused minimum most m (suc n) z = no-sound m
+
+pub fresh-unsound : (minimum most : ℕ) (m : Stores) → ((freshOf minimum most m) .refused ≡ 0 → ⊥) → storesSound ((freshOf minimum most m) .stand) m ≡ false
+unfolding freshOf
+fresh-unsound minimum most m = by-refused minimum most m (freshFailed minimum most m)

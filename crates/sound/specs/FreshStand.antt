@@ -2,13 +2,17 @@
 use Prim.Native.Nat.{ℕ, zero, suc}
 use mathlib.Core.Bool.{Bool, true, false, _&&_, cond}
 use mathlib.Core.List.{List, []}
-use lib.ListN.{replicate}
+use lib.ListN.{length, replicate}
 use lib.Dec.{leb, eqb}
 use Rattle.strokes.specs.declared.Rooms.{Rooms}
 use Rattle.strokes.specs.declared.Stand.{Stand}
+use Rattle.strokes.specs.Lent.{Stores}
+use Rattle.strokes.specs.StateRead.{rawSized, mergedSized, fractalSized}
 use Rattle.sound.specs.declared.fresh_stand.FreshAnswer.{FreshAnswer}
 use Rattle.machine.specs.FeedQuestions.{orElse}
 use Rattle.machine.specs.Soundness.{isRoom}
+
+-- ---- questions 1 and 2
 
 -- is the minimum length, or the most strokes, 0 to 64?
 unfoldable pub isAsked : ℕ → Bool
@@ -18,15 +22,33 @@ isAsked n = leb n 64
 unfoldable pub orDefault : ℕ → ℕ → ℕ
 orDefault n d = cond (eqb n 0) d n
 
+-- ---- question 3
+
+-- how many bars the lent stores hold, by their columns of times
+unfoldable pub roomsOf : Stores → Rooms
+roomsOf m = record { raw = length (m .raw .times); unfinished = length (m .unfinished .times); strokes = length (m .strokes .times) }
+
+-- every column of a store has that length: columns of different lengths hold no number of bars
+unfoldable pub columnsAgree : Rooms → Stores → Bool
+unfolding rawSized mergedSized fractalSized
+columnsAgree r m =
+    (rawSized (r .raw) (m .raw) && mergedSized (r .unfinished) (m .unfinished)) && (mergedSized (r .strokes) (m .strokes) && fractalSized (r .strokes) (m .fractals))
+
 -- each store takes 16 to 65,536 bars
 unfoldable pub roomsFit : Rooms → Bool
 unfolding isRoom
 roomsFit r = isRoom (r .raw) && (isRoom (r .unfinished) && isRoom (r .strokes))
 
+unfoldable pub question3 : Stores → Bool
+unfolding columnsAgree roomsFit roomsOf
+question3 m = columnsAgree (roomsOf m) m && roomsFit (roomsOf m)
+
+-- ---- the answer
+
 -- the first of questions 1 to 3 that is answered "no", or 0
-unfoldable pub freshFailed : ℕ → ℕ → Rooms → ℕ
-unfolding orElse isAsked roomsFit
-freshFailed minimum most rooms = orElse (isAsked minimum) 1 (orElse (isAsked most) 2 (orElse (roomsFit rooms) 3 0))
+unfoldable pub freshFailed : ℕ → ℕ → Stores → ℕ
+unfolding orElse isAsked question3
+freshFailed minimum most m = orElse (isAsked minimum) 1 (orElse (isAsked most) 2 (orElse (question3 m) 3 0))
 
 -- a stand that holds nothing
 unfoldable pub emptyStand : ℕ → ℕ → Rooms → Stand
@@ -47,12 +69,12 @@ unfoldable pub noStand : Stand
 unfolding emptyStand
 noStand = emptyStand 0 0 (record { raw = 0; unfinished = 0; strokes = 0 })
 
--- by the first question that failed
-unfoldable pub freshBy : ℕ → ℕ → ℕ → Rooms → FreshAnswer
-unfolding emptyStand noStand orDefault
-freshBy zero minimum most rooms = record { refused = 0; stand = emptyStand (orDefault minimum 6) (orDefault most 50) rooms }
-freshBy (suc n) minimum most rooms = record { refused = suc n; stand = noStand }
+-- by the first question that failed: the lengths of the lent stores are recorded
+unfoldable pub freshBy : ℕ → ℕ → ℕ → Stores → FreshAnswer
+unfolding emptyStand noStand orDefault roomsOf
+freshBy zero minimum most m = record { refused = 0; stand = emptyStand (orDefault minimum 6) (orDefault most 50) (roomsOf m) }
+freshBy (suc n) minimum most m = record { refused = suc n; stand = noStand }
 
-unfoldable pub freshOf : ℕ → ℕ → Rooms → FreshAnswer
+unfoldable pub freshOf : ℕ → ℕ → Stores → FreshAnswer
 unfolding freshBy freshFailed
-freshOf minimum most rooms = freshBy (freshFailed minimum most rooms) minimum most rooms
+freshOf minimum most m = freshBy (freshFailed minimum most m) minimum most m

@@ -1,7 +1,11 @@
 // The fresh analyzer: CZSC::new of the source, with resolve_min_bi_len and resolve_max_bi_num.
 ghost use mathlib.Core.Path.{_≡_};
-ghost use Rattle.sound.specs.FreshStand.{roomsFit, orDefault, freshFailed, emptyStand, freshOf};
+ghost use lib.ListN.{length};
+ghost use Rattle.machine.specs.FeedQuestions.{orElse};
 ghost use Rattle.machine.specs.Soundness.{isRoom};
+ghost use Rattle.strokes.specs.Lent.{before};
+ghost use Rattle.sound.specs.FreshStand.{isAsked, roomsFit, orDefault, emptyStand, freshOf};
+use super::soundness::columns_agree;
 use bars::both;
 use strokes::Rooms;
 use strokes::Stand;
@@ -52,9 +56,20 @@ fn or_default(n: usize, d: usize) -> usize
     n
 }
 
-// Questions 1 to 3: the number of the first one that is answered "no", or 0.
-fn fresh_failed(minimum: usize, most: usize, rooms: Rooms) -> u64
-    ensures { λ r. ⌜ r ≡ freshFailed minimum most rooms ⌝ }
+// How many bars the lent stores hold, by their columns of times.
+fn rooms_of(rt: &[i64], ut: &[i64], st: &[i64]) -> Rooms
+    ensures { λ r. ⌜ r ≡ record { raw = length (now (rt .entry)); unfinished = length (now (ut .entry)); strokes = length (now (st .entry)) } ⌝ }
+{
+    Rooms {
+        raw: rt.len(),
+        unfinished: ut.len(),
+        strokes: st.len(),
+    }
+}
+
+// Questions 1 to 3, where `hold` answers the third: the number of the first one that is answered "no", or 0.
+fn fresh_failed(minimum: usize, most: usize, hold: bool) -> u64
+    ensures { λ r. ⌜ r ≡ orElse (isAsked minimum) 1 (orElse (isAsked most) 2 (orElse hold 3 0)) ⌝ }
 {
     if 64 < minimum {
         return 1;
@@ -62,18 +77,56 @@ fn fresh_failed(minimum: usize, most: usize, rooms: Rooms) -> u64
     if 64 < most {
         return 2;
     }
-    if rooms_fit(rooms) {
+    if hold {
         return 0;
     }
     3
 }
 
-// A fresh analyzer. A minimum of 0 means 6, most strokes of 0 mean 50. A refusal hands back a stand
-// that is not sound with any stores.
-pub fn fresh(minimum: usize, most: usize, rooms: Rooms) -> FreshAnswer
-    ensures { λ r. ⌜ r ≡ freshOf minimum most rooms ⌝ }
+// A fresh analyzer for the lent stores, whose lengths it records: no cell of them is read. A minimum
+// of 0 means 6, most strokes of 0 mean 50. A refusal hands back a stand that is not sound with any
+// stores.
+pub fn fresh(
+    minimum: usize,
+    most: usize,
+    rt: &[i64],
+    ri: &[i32],
+    rp: &[[f64; 6]],
+    ut: &[i64],
+    ui: &[i32],
+    up: &[[f64; 6]],
+    uc: &[usize],
+    ue: &[[i64; 101]],
+    st: &[i64],
+    si: &[i32],
+    sp: &[[f64; 6]],
+    sc: &[usize],
+    se: &[[i64; 101]],
+    fs: &[[i64; 6]],
+    fp: &[[f64; 18]],
+) -> FreshAnswer
+    ensures { λ r. ⌜ r ≡ freshOf minimum most (before rt ri rp ut ui up uc ue st si sp sc se fs fp) ⌝ }
 {
-    let failed = fresh_failed(minimum, most, rooms);
+    let rooms = rooms_of(rt, ut, st);
+    let agree = columns_agree(
+        rooms,
+        rt,
+        ri,
+        rp,
+        ut,
+        ui,
+        up,
+        uc,
+        ue,
+        st,
+        si,
+        sp,
+        sc,
+        se,
+        fs,
+        fp,
+    );
+    let failed = fresh_failed(minimum, most, both(agree, rooms_fit(rooms)));
     if failed == 0 {
         let stand = empty_stand(or_default(minimum, 6), or_default(most, 50), rooms);
         return FreshAnswer { refused: 0, stand };

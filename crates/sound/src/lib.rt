@@ -6,5 +6,4 @@ mod soundness;
 pub use fresh_stand::FreshAnswer;
 pub use fresh_stand::fresh;
 pub use newest::newest_is_last;
-pub use soundness::stores_sized;
 pub use soundness::stores_sound;

@@ -13,9 +13,10 @@ ghost use Rattle.bars.specs.Lists.{every, last};
 ghost use Rattle.bars.specs.Questions.{isPrice};
 ghost use Rattle.stores.specs.Code.StoreRows.{rising, placeOf};
 ghost use Rattle.machine.specs.Soundness.{rises, sameTime, isSetting, endsOn};
-ghost use Rattle.strokes.specs.StateRead.{storesSized, rawSized, mergedSized, fractalSized, total};
+ghost use Rattle.strokes.specs.StateRead.{rawSized, mergedSized, fractalSized, total};
 ghost use Rattle.strokes.specs.Lent.{fractalsBefore, before};
 ghost use Rattle.sound.specs.Code.SoundStand.{inTime, timesPass, rawRow, mergedRow, smallCount, differ, topRow, alternating, isReal, endsHeld, middleTimes, stampsPass, barsPass, fractalColumns, atPlace, isTime, namedRows, newestRow, numbersPass, rawColumns, unfinishedColumns, strokeColumns, strokesColumns, frontColumns};
+ghost use Rattle.sound.specs.FreshStand.{columnsAgree};
 ghost use Rattle.sound.specs.StandSound.{storesSound};
 ghost use Rattle.stores.specs.Lent.{rawBefore, mergedBefore};
 use super::fresh_stand::rooms_fit;
@@ -23,6 +24,7 @@ use bars::both;
 use bars::from_zero;
 use bars::is_price;
 use bars::is_volume;
+use strokes::Rooms;
 use strokes::Stand;
 
 // ---- times
@@ -723,9 +725,9 @@ fn strokes_sound(
 
 // ---- the stand
 
-// The lent stores have their recorded lengths.
-pub fn stores_sized(
-    stand: Stand,
+// Every column of a store has the store's length.
+pub fn columns_agree(
+    rooms: Rooms,
     rt: &[i64],
     ri: &[i32],
     rp: &[[f64; 6]],
@@ -742,9 +744,8 @@ pub fn stores_sized(
     fs: &[[i64; 6]],
     fp: &[[f64; 18]],
 ) -> bool
-    ensures { λ r. ⌜ r ≡ storesSized stand (before rt ri rp ut ui up uc ue st si sp sc se fs fp) ⌝ }
+    ensures { λ r. ⌜ r ≡ columnsAgree rooms (before rt ri rp ut ui up uc ue st si sp sc se fs fp) ⌝ }
 {
-    let rooms = stand.rooms;
     let raw = rooms.raw;
     let unfinished = rooms.unfinished;
     let strokes = rooms.strokes;
@@ -781,8 +782,9 @@ pub fn stores_sound(
 ) -> bool
     ensures { λ r. ⌜ r ≡ storesSound stand (before rt ri rp ut ui up uc ue st si sp sc se fs fp) ⌝ }
 {
-    if !stores_sized(
-        stand,
+    let rooms = stand.rooms;
+    if !columns_agree(
+        rooms,
         rt,
         ri,
         rp,

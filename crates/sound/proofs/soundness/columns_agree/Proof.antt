@@ -1,8 +1,8 @@
 use Rattle.strokes.specs.Lent.{storesOf}
-use Rattle.strokes.specs.StateRead.{storesSized}
+use Rattle.sound.specs.FreshStand.{columnsAgree}
 use borrow.Author.Needs.{needs}
-use Rattle.sound.proofs.soundness.stores_sized.Statement.{statement}
-use Rattle.sound.proofs.soundness.stores_sized.Tie as tie
+use Rattle.sound.proofs.soundness.columns_agree.Statement.{statement}
+use Rattle.sound.proofs.soundness.columns_agree.Tie as tie
 
 raw-sized-requires : tie.Need-raw-sized-requires
 raw-sized-requires c κs = search needs
@@ -26,11 +26,11 @@ both-requires-3 : tie.Need-both-requires-3
 both-requires-3 c κs = search needs
 
 returns : tie.Need-returns
-unfolding storesSized storesOf
+unfolding columnsAgree storesOf
 returns c = rw (c .both3 .ensures, c .before .before .before .before .both .ensures, c .before .before .before .before .before .before .raw-sized .ensures, c .before .before .before .before .before .merged-sized .ensures, c .before .both2 .ensures, c .before .before .before .merged-sized2 .ensures, c .before .before .fractal-sized .ensures)
 
-pub stores-sized-spec : {M : Type 1} → statement M
-stores-sized-spec =
+pub columns-agree-spec : {M : Type 1} → statement M
+columns-agree-spec =
     tie.close
     (tie.spec
     raw-sized-requires
