@@ -13,6 +13,7 @@ use Rattle.sound.specs.StandSound.{IsSound, storesSound}
 use Rattle.question4.specs.Question4.{question4}
 use Rattle.feed.specs.PortCalls.{failedBy, FeedIs, call, none}
 use Rattle.feed.specs.declared.feed.FeedAnswer.{FeedAnswer}
+use Rattle.feed.specs.declared.feed.Updated.{Updated}
 use Rattle.writing.proofs.SameLengths.{SameLengths}
 use Rattle.feed.proofs.PortStays.{calls-lengths}
 use Rattle.asking.specs.declared.questions.Asked.{Asked}
@@ -81,6 +82,12 @@ module _ (s : Stand) (m : Stores) (b : Bar) where
   pub feed-yes : (a : Asked) (w : Wrote) (m' : Stores) → IsSound s m → AskedOf (settingsOf s) (stateOf s m) b a → a .failed ≡ 0 → IsWritten s m b w m'
       → FeedIs s m b 0 (w .made) (w .broken) (w .shed) (w .stand) m'
   feed-yes a w m' h e z k = feed-accepted w m' h (sym (e .failed) ∙ z) k
+
+-- the analyzer is handed back with the stand
+pub handed-back : {s : Stand} {m m' : Stores} {b : Bar} (r : FeedAnswer) (u : Updated)
+    → u ≡ record { czsc = record { stand = r .stand }; failed = r .failed; made = r .made; broken = r .broken; shed = r .shed }
+    → FeedIs s m b (r .failed) (r .made) (r .broken) (r .shed) (r .stand) m' → FeedIs s m b (u .failed) (u .made) (u .broken) (u .shed) (u .czsc .stand) m'
+handed-back {s = s} {m = m} {m' = m'} {b = b} r u e f = subst (λ (x : Updated). FeedIs s m b (x .failed) (x .made) (x .broken) (x .shed) (x .czsc .stand) m') (sym e) f
 
 -- no column changes its length
 pub fed-lengths : {s s' : Stand} {m m' : Stores} {b : Bar} {failed made broken shed : ℕ} → IsSound s m → FeedIs s m b failed made broken shed s' m' → SameLengths m m'

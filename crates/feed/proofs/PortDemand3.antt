@@ -1,7 +1,7 @@
 -- Demand 3 of the port: the claims of specs/PortClaims, from those of the plain machine. Assumes nothing.
-use Prim.Native.Nat.{_+_}
+use Prim.Native.Nat.{ℕ, zero, suc, _+_}
+use native.Mathlib.Omega.{arith}
 use mathlib.Core.Path.{_≡_, refl, ap, sym, _∙_, subst}
-use mathlib.Core.Bool.{Bool, true, false}
 use mathlib.Core.List.{List, [], map}
 use mathlib.Core.Option.{none}
 use lib.ListN.{length, length-map}
@@ -15,15 +15,14 @@ use Rattle.machine.specs.KeptStrokes.{MeetAll}
 use Rattle.machine.specs.Reached.{Later}
 use Rattle.machine.proofs.ByPlace.{search-by-time}
 use Rattle.machine.proofs.ReachedSound.{reached-by-time}
-use Rattle.strokes.specs.StateRead.{stateOf, storesSized, bareStroke, bareState}
+use Rattle.strokes.specs.StateRead.{stateOf, bareStroke, bareState}
 use Rattle.sound.proofs.FreshLaws.{fresh-state}
 use Rattle.zones.specs.Zones.{Zone, summary, getZsSeq}
 use Rattle.zones.specs.Claims.{kept, Inside}
-use Rattle.feed.specs.PortCalls.{acceptedOf, FreshCalls, begun}
+use Rattle.feed.specs.PortCalls.{acceptedOf, FreshCalls, refusedWith}
 use Rattle.feed.specs.StrokesLeft.{Left}
 use Rattle.feed.specs.PortClaims.{keptOf, machineStrokes, bareEvents, PortDemand3}
 use Rattle.zones.proofs.Demand3.{demand3}
-use Rattle.feed.proofs.PortFollows.{idle}
 use Rattle.feed.proofs.PortMachine.{settings, followed, machine, events, unheard}
 use Rattle.feed.proofs.PortReached.{reached-asks, reached-later, reached-shallow}
 use Rattle.feed.proofs.StrokesLeftKept.{left-kept, left-counted, left-map, only-left}
@@ -38,7 +37,7 @@ record Like (r : FreshCalls) : Type 0 where
   sums : (calls (settings r) bars) .events ≡ r .sums
   later : T (eachLater none (acceptedOf (r .calls))) → Later (settings r) bars
 
-like-machine : (r : FreshCalls) → storesSized (begun r) (r .lent) ≡ true → Like r
+like-machine : (r : FreshCalls) → refusedWith r ≡ 0 → Like r
 unfolding kept keptOf bareState
 like-machine r h =
     record {
@@ -48,24 +47,24 @@ like-machine r h =
       later = λ l. subst (λ (z : List Bar). T (eachLater none z)) ((followed r h) .taken) l;
     }
 
--- with stores of other lengths, as if no bar had come
-like-none : (r : FreshCalls) → storesSized (begun r) (r .lent) ≡ false → Like r
+-- refused: as if no bar had come
+like-none : (r : FreshCalls) → (refusedWith r ≡ 0 → ⊥) → Like r
 unfolding kept keptOf calls run start fresh accepted eachLater
 like-none r h =
     let j = unheard r h in
     record {
       bars = [];
-      strokes = ap (λ (s : State). s .strokes) (sym ((λ i. stateOf (j .stand i) (j .stores i)) ∙ fresh-state (r .minimum) (r .most) (r .rooms) (r .lent)));
+      strokes = ap (λ (s : State). s .strokes) (sym ((λ i. stateOf (j .stand i) (j .stores i)) ∙ fresh-state (r .minimum) (r .most) (r .lent)));
       sums = sym (j .events);
       later = λ l. tt;
     }
 
-like-if : (r : FreshCalls) (t : Bool) → storesSized (begun r) (r .lent) ≡ t → Like r
-like-if r true h = like-machine r h
-like-if r false h = like-none r h
+like-if : (r : FreshCalls) (n : ℕ) → refusedWith r ≡ n → Like r
+like-if r zero h = like-machine r h
+like-if r (suc n) h = like-none r (λ z. omega arith)
 
 like : (r : FreshCalls) → Like r
-like r = like-if r (storesSized (begun r) (r .lent)) refl
+like r = like-if r (refusedWith r) refl
 
 -- ---- the claims
 
@@ -78,7 +77,7 @@ sums r =
     ∙ demand3 .sums (settings r) (k .bars)
     ∙ (λ i. n i + (k .sums i) .broken + (k .sums i) .shed)
 
-left : (r : FreshCalls) → storesSized (begun r) (r .lent) ≡ true → Left [] (map bareEvents (machineStrokes r)) (keptOf r)
+left : (r : FreshCalls) → refusedWith r ≡ 0 → Left [] (map bareEvents (machineStrokes r)) (keptOf r)
 unfolding keptOf bareState bareEvents
 left r h = subst (Left [] (map bareEvents (machineStrokes r))) (ap (λ (s : State). s .strokes) (sym (machine r h))) (left-map bareStroke (left-kept (settings r) (r .bars)))
 

@@ -1,5 +1,5 @@
 -- A list of the port's feed calls follows the plain machine: where the lent stores have their recorded lengths, what is held after it is what the machine holds, but
--- for the elements of fractals' bars, and its answers add up to the machine's. Where they have not, every call is refused. Assumes nothing.
+-- for the elements of fractals' bars, and its answers add up to the machine's. Where the stand is not sound to begin with, every call is refused. Assumes nothing.
 use Prim.Native.Nat.{ℕ, zero, suc, _+_}
 use native.Mathlib.Omega.{arith}
 use mathlib.Core.Path.{_≡_, refl, ap, sym, _∙_, subst}
@@ -137,7 +137,7 @@ follows (call {s = s} {s' = s'} {t = t} {m = m} {m' = m'} {k = k} {b = b} {bs = 
       taken = w .taken (acceptedOf p) ∙ ap (acceptedBy (r .answer) b) (a .taken);
     }
 
--- ---- stores of other lengths
+-- ---- a stand that is not sound
 
 pub record Idle {s t : Stand} {m k : Stores} {bs : List Bar} {e : Events} (p : PortCalls s m bs e t k) : Type 0 where
   pub stand : t ≡ s
@@ -145,17 +145,17 @@ pub record Idle {s t : Stand} {m k : Stores} {bs : List Bar} {e : Events} (p : P
   pub events : e ≡ none-yet
   pub taken : acceptedOf p ≡ []
 
-pub refused-4 : (s : Stand) (m : Stores) (b : Bar) → sized s m ≡ false → failedBy s m b ≡ 4
-unfolding failedBy question4 storesSound orElse
-refused-4 s m b h = ap (λ (t : Bool). orElse (t && sound (settingsOf s) (stateOf s m)) 4 (failedAfter4 (settingsOf s) (stateOf s m) b)) h
+pub refused-4 : (s : Stand) (m : Stores) (b : Bar) → question4 s m ≡ false → failedBy s m b ≡ 4
+unfolding failedBy orElse
+refused-4 s m b h = ap (λ (t : Bool). orElse t 4 (failedAfter4 (settingsOf s) (stateOf s m) b)) h
 
-pub idle : {s t : Stand} {m k : Stores} {bs : List Bar} {e : Events} (p : PortCalls s m bs e t k) → sized s m ≡ false → Idle p
+pub idle : {s t : Stand} {m k : Stores} {bs : List Bar} {e : Events} (p : PortCalls s m bs e t k) → question4 s m ≡ false → Idle p
 unfolding acceptedOf added none-yet
 idle none h = record { stand = refl; stores = refl; events = refl; taken = refl }
 idle (call {s = s} {s' = s'} {m = m} {m' = m'} {b = b} {failed = n} {made = made} {broken = broken} {shed = shed} {e = e} f p) h =
     let q : n ≡ 4 = f .failed-is ∙ refused-4 s m b h in
     let a = f .refused (λ z. omega arith) in
-    let j = idle p ((λ i. sized (a .0 i) (a .1 i)) ∙ h) in
+    let j = idle p ((λ i. question4 (a .0 i) (a .1 i)) ∙ h) in
     record {
       stand = j .stand ∙ a .0;
       stores = j .stores ∙ a .1;

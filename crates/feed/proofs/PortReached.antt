@@ -1,4 +1,4 @@
--- Question 4 on every list of calls from a fresh analyzer that was not refused, with stores of the recorded lengths: only the clause on the newest raw bar can fail. Assumes
+-- Question 4 on every list of calls from a fresh analyzer that was not refused: only the clause on the newest raw bar can fail. Assumes
 -- nothing.
 use mathlib.Core.Path.{_≡_, refl, ap, sym, _∙_, subst}
 use mathlib.Core.Bool.{Bool, true, _&&_}
@@ -14,14 +14,13 @@ use Rattle.machine.specs.Calls.{calls, eachLater}
 use Rattle.machine.specs.Reached.{Shallow}
 use Rattle.machine.proofs.ReachedSound.{reached-sound}
 use Rattle.strokes.specs.declared.Stand.{Stand}
-use Rattle.strokes.specs.StateRead.{settingsOf, stateOf, storesSized, sized, bareState}
+use Rattle.strokes.specs.StateRead.{settingsOf, stateOf, sized, bareState}
 use Rattle.strokes.specs.Lent.{Stores}
 use Rattle.strokes.proofs.BareSound.{bare-sound}
-use Rattle.sound.specs.FreshStand.{freshOf}
 use Rattle.sound.specs.StandSound.{storesSound}
 use Rattle.sound.proofs.FreshLaws.{fresh-sound}
 use Rattle.question4.specs.Question4.{question4}
-use Rattle.feed.specs.PortCalls.{acceptedOf, FreshCalls, begun}
+use Rattle.feed.specs.PortCalls.{acceptedOf, FreshCalls, refusedWith, begun}
 use Rattle.feed.proofs.PortStays.{settings-stay, sizes-stay}
 use Rattle.feed.proofs.PortMachine.{settings, followed, machine}
 
@@ -44,20 +43,20 @@ asks-newest : (c : Settings) (x : State) → T (soundBut c x) → sound c (bareS
 unfolding sound
 asks-newest c x h = bare-sound c x ∙ ap (λ (t : Bool). t && newestLast x) (is-true (soundBut c x) h) ∙ newest-bare x
 
-pub reached-asks : (r : FreshCalls) → (freshOf (r .minimum) (r .most) (r .rooms)) .refused ≡ 0 → storesSized (begun r) (r .lent) ≡ true
+pub reached-asks : (r : FreshCalls) → refusedWith r ≡ 0
     → question4 (r .stand) (r .stores) ≡ newestLast (stateOf (r .stand) (r .stores))
 unfolding question4 storesSound
-reached-asks r z h =
+reached-asks r z =
     let c = settingsOf (begun r) in
-    let f = fresh-passes (begun r) (r .lent) (fresh-sound (r .minimum) (r .most) (r .rooms) (r .lent) z h) in
-    let e = machine r h in
+    let f = fresh-passes (begun r) (r .lent) (fresh-sound (r .minimum) (r .most) (r .lent) z) in
+    let e = machine r z in
     (λ i. is-true (sized (r .stand) (r .stores)) (sizes-stay (r .calls) (f .0)) i && sound (settings-stay (r .calls) i) (e i))
     ∙ asks-newest c ((calls c (r .bars)) .state) (reached-sound .every c (f .1) (r .bars))
     ∙ ap newestLast (sym e)
 
-pub reached-sizes : (r : FreshCalls) → (freshOf (r .minimum) (r .most) (r .rooms)) .refused ≡ 0 → storesSized (begun r) (r .lent) ≡ true → T (sized (r .stand) (r .stores))
-reached-sizes r z h =
-    sizes-stay (r .calls) ((fresh-passes (begun r) (r .lent) (fresh-sound (r .minimum) (r .most) (r .rooms) (r .lent) z h)) .0)
+pub reached-sizes : (r : FreshCalls) → refusedWith r ≡ 0 → T (sized (r .stand) (r .stores))
+reached-sizes r z =
+    sizes-stay (r .calls) ((fresh-passes (begun r) (r .lent) (fresh-sound (r .minimum) (r .most) (r .lent) z)) .0)
 
 -- ---- where no accepted bar repeats a time, or no element is left out, none is in doubt
 
@@ -66,16 +65,16 @@ newest-of : (c : Settings) (x : State) → T (sound c x) → newestLast (bareSta
 unfolding sound
 newest-of c x h = sym (newest-bare x) ∙ is-true (newestLast x) (and-r (soundBut c x) (newestLast x) h)
 
-module _ (r : FreshCalls) (z : (freshOf (r .minimum) (r .most) (r .rooms)) .refused ≡ 0) (h : storesSized (begun r) (r .lent) ≡ true) where
+module _ (r : FreshCalls) (z : refusedWith r ≡ 0) where
   settings-pass : T (settingsSound (settings r))
-  settings-pass = (fresh-passes (begun r) (r .lent) (fresh-sound (r .minimum) (r .most) (r .rooms) (r .lent) z h)) .1
+  settings-pass = (fresh-passes (begun r) (r .lent) (fresh-sound (r .minimum) (r .most) (r .lent) z)) .1
 
   from-machine : T (sound (settings r) ((calls (settings r) (r .bars)) .state)) → question4 (r .stand) (r .stores) ≡ true
-  from-machine s = reached-asks r z h ∙ ap newestLast (machine r h) ∙ newest-of (settings r) ((calls (settings r) (r .bars)) .state) s
+  from-machine s = reached-asks r z ∙ ap newestLast (machine r z) ∙ newest-of (settings r) ((calls (settings r) (r .bars)) .state) s
 
   pub reached-later : T (eachLater none (acceptedOf (r .calls))) → question4 (r .stand) (r .stores) ≡ true
   reached-later l =
-      from-machine (reached-sound .later (settings r) settings-pass (r .bars) (subst (λ (x : List Bar). T (eachLater none x)) ((followed r h) .taken) l))
+      from-machine (reached-sound .later (settings r) settings-pass (r .bars) (subst (λ (x : List Bar). T (eachLater none x)) ((followed r z) .taken) l))
 
   pub reached-shallow : Shallow (settings r) fresh (r .bars) → question4 (r .stand) (r .stores) ≡ true
   reached-shallow s = from-machine (reached-sound .shallow (settings r) settings-pass (r .bars) s)

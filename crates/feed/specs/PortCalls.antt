@@ -8,7 +8,6 @@ use Rattle.bars.specs.declared.Bar.{Bar}
 use Rattle.machine.specs.Feed.{Events, step}
 use Rattle.machine.specs.FeedQuestions.{orElse, failedAfter4}
 use Rattle.machine.specs.Calls.{none-yet}
-use Rattle.strokes.specs.declared.Rooms.{Rooms}
 use Rattle.strokes.specs.declared.Stand.{Stand}
 use Rattle.strokes.specs.StateRead.{settingsOf, stateOf, sized, bareState}
 use Rattle.strokes.specs.Lent.{Stores}
@@ -60,18 +59,20 @@ acceptedOf (call {b = b} {failed = failed} f p) = acceptedIf failed b (acceptedO
 
 -- ---- from a fresh analyzer
 
--- A list of calls that begins with what `fresh` hands back, whether it answered or refused, and with any stores, of the recorded lengths or not, whatever they hold.
+-- A list of calls that begins with what `fresh` hands back, whether it answered or refused, for the stores that are then lent: of any lengths, whatever they hold.
 pub record FreshCalls : Type 0 where
   pub minimum : ℕ
   pub most : ℕ
-  pub rooms : Rooms
   pub lent : Stores
   pub bars : List Bar
   pub sums : Events
   pub stand : Stand
   pub stores : Stores
-  pub calls : PortCalls ((freshOf minimum most rooms) .stand) lent bars sums stand stores
+  pub calls : PortCalls ((freshOf minimum most lent) .stand) lent bars sums stand stores
 
--- the stand that it begins with
+-- the number that the fresh analyzer is refused with, or 0, and the stand that it begins with
+abbrev pub refusedWith : FreshCalls → ℕ
+refusedWith r = (freshOf (r .minimum) (r .most) (r .lent)) .refused
+
 abbrev pub begun : FreshCalls → Stand
-begun r = (freshOf (r .minimum) (r .most) (r .rooms)) .stand
+begun r = (freshOf (r .minimum) (r .most) (r .lent)) .stand

@@ -17,8 +17,7 @@ use Rattle.machine.specs.Reached.{Shallow}
 use Rattle.machine.specs.KeptStrokes.{MeetAll}
 use Rattle.machine.specs.SearchByTime.{SearchByTime}
 use Rattle.machine.specs.ReachedByTime.{ReachedByTime}
-use Rattle.strokes.specs.StateRead.{settingsOf, stateOf, storesSized, bareStroke, bareState}
-use Rattle.sound.specs.FreshStand.{freshOf}
+use Rattle.strokes.specs.StateRead.{settingsOf, stateOf, bareStroke, bareState}
 use Rattle.question4.specs.Question4.{question4}
 use Rattle.named.specs.ReportQuestions.{nth}
 use Rattle.zones.specs.declared.FakeStroke.{FakeStroke}
@@ -31,7 +30,7 @@ use Rattle.zones.specs.FakeRows.{FakeColumns}
 use Rattle.zones.specs.ListedFakes.{fakesOf, fakesFit, FakesCall, listedFakes}
 use Rattle.zones.specs.FakesRead.{fakesRead}
 use Rattle.zones.specs.Claims.{FakeChain, Inside}
-use Rattle.feed.specs.PortCalls.{FreshCalls, begun, acceptedOf}
+use Rattle.feed.specs.PortCalls.{FreshCalls, refusedWith, begun, acceptedOf}
 use Rattle.feed.specs.StrokesLeft.{EventStrokes, strokesOf, counted, Left}
 
 -- the strokes that the stand and the stores hold after the last call
@@ -87,30 +86,30 @@ pub record FakesTold (r : FreshCalls) (i : ℕ) (c : FakesCall) : Type 0 where
 -- ---- the claims
 
 pub record PortDemand3 : Type 0 where
-  -- lent stores of the recorded lengths: what is held is what the plain machine holds, but for the elements of fractals' bars, and the sums are the machine's
-  pub machine : (r : FreshCalls) → storesSized (begun r) (r .lent) ≡ true → stateOf (r .stand) (r .stores) ≡ bareState ((calls (settingsOf (begun r)) (r .bars)) .state)
-  pub events : (r : FreshCalls) → storesSized (begun r) (r .lent) ≡ true → r .sums ≡ (calls (settingsOf (begun r)) (r .bars)) .events
-  -- a fresh analyzer that was not refused, and lent stores of the recorded lengths: of question 4 every clause holds but the one on the newest raw bar ..
-  pub sound-but : (r : FreshCalls) → (freshOf (r .minimum) (r .most) (r .rooms)) .refused ≡ 0 → storesSized (begun r) (r .lent) ≡ true
+  -- a fresh analyzer that was not refused: what is held is what the plain machine holds, but for the elements of fractals' bars, and the sums are the machine's
+  pub machine : (r : FreshCalls) → refusedWith r ≡ 0 → stateOf (r .stand) (r .stores) ≡ bareState ((calls (settingsOf (begun r)) (r .bars)) .state)
+  pub events : (r : FreshCalls) → refusedWith r ≡ 0 → r .sums ≡ (calls (settingsOf (begun r)) (r .bars)) .events
+  -- of question 4 every clause holds but the one on the newest raw bar ..
+  pub sound-but : (r : FreshCalls) → refusedWith r ≡ 0
       → question4 (r .stand) (r .stores) ≡ newestLast (stateOf (r .stand) (r .stores))
   -- .. and that one too where every accepted bar was later than the one before, or where no unfinished bar had more than 100 elements. Zones and fake strokes are answered there
-  pub sound-later : (r : FreshCalls) → (freshOf (r .minimum) (r .most) (r .rooms)) .refused ≡ 0 → storesSized (begun r) (r .lent) ≡ true
+  pub sound-later : (r : FreshCalls) → refusedWith r ≡ 0
       → T (eachLater none (acceptedOf (r .calls))) → question4 (r .stand) (r .stores) ≡ true
-  pub sound-shallow : (r : FreshCalls) → (freshOf (r .minimum) (r .most) (r .rooms)) .refused ≡ 0 → storesSized (begun r) (r .lent) ≡ true
+  pub sound-shallow : (r : FreshCalls) → refusedWith r ≡ 0
       → Shallow (settingsOf (begun r)) fresh (r .bars) → question4 (r .stand) (r .stores) ≡ true
   -- the plain machine searches by place and the Rust by time: with rising times both find the same stroke and leave the same bars
   pub by-time : SearchByTime
   -- and on every list of calls the times of the bars that are searched rise, and the kept strokes begin and end at the bars whose times the Rust compares
   pub by-time-reached : ReachedByTime
-  -- other lengths: every call is refused
-  pub idle : (r : FreshCalls) → storesSized (begun r) (r .lent) ≡ false → (r .stand ≡ begun r) × (r .stores ≡ r .lent) × (r .sums ≡ none-yet)
+  -- one that was refused: so is every call
+  pub idle : (r : FreshCalls) → (refusedWith r ≡ 0 → ⊥) → (r .stand ≡ begun r) × (r .stores ≡ r .lent) × (r .sums ≡ none-yet)
   -- over all answers, strokes made = kept + broken + shed
   pub sums : (r : FreshCalls) → r .sums .made ≡ length (keptOf r) + r .sums .broken + r .sums .shed
-  -- lent stores of the recorded lengths: call by call, the strokes kept before it and those the machine then makes are those it sheds, those kept after it and those it
+  -- a fresh analyzer that was not refused: call by call, the strokes kept before it and those the machine then makes are those it sheds, those kept after it and those it
   -- breaks, in order; so the kept strokes are, oldest first, exactly those made and neither broken nor shed. No other list is left, and the sums count these strokes
-  pub left : (r : FreshCalls) → storesSized (begun r) (r .lent) ≡ true → Left [] (map bareEvents (machineStrokes r)) (keptOf r)
-  pub left-only : (r : FreshCalls) → storesSized (begun r) (r .lent) ≡ true → (l : List Stroke) → Left [] (map bareEvents (machineStrokes r)) l → l ≡ keptOf r
-  pub left-counted : (r : FreshCalls) → storesSized (begun r) (r .lent) ≡ true → r .sums ≡ counted (machineStrokes r)
+  pub left : (r : FreshCalls) → refusedWith r ≡ 0 → Left [] (map bareEvents (machineStrokes r)) (keptOf r)
+  pub left-only : (r : FreshCalls) → refusedWith r ≡ 0 → (l : List Stroke) → Left [] (map bareEvents (machineStrokes r)) l → l ≡ keptOf r
+  pub left-counted : (r : FreshCalls) → refusedWith r ≡ 0 → r .sums ≡ counted (machineStrokes r)
   -- the strokes of the zones, zone after zone, are the kept strokes
   pub zoned : (r : FreshCalls) → join (map (λ z. z .strokes) (getZsSeq (map summary (keptOf r)))) ≡ map summary (keptOf r)
   -- each kept stroke: its fake strokes and its end

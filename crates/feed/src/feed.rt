@@ -13,7 +13,16 @@ pub struct Czsc {
 }
 
 // What a feed answers: the number of the first question that was answered "no", or 0, then strokes made, broken and shed, each 0 or 1;
-// and the stand, handed back.
+// and the analyzer, handed back.
+pub struct Updated {
+    pub czsc: Czsc,
+    pub failed: u64,
+    pub made: u64,
+    pub broken: u64,
+    pub shed: u64,
+}
+
+// The same, with the bare stand: for callers that hold no Czsc.
 pub struct FeedAnswer {
     pub stand: Stand,
     pub failed: u64,
@@ -34,7 +43,22 @@ fn refused(stand: Stand, failed: u64) -> FeedAnswer
     }
 }
 
-// The feed of a stand that question 4 has passed: questions 5 to 12, then the step.
+fn handed_back(r: FeedAnswer) -> Updated
+    ensures { λ u. ⌜ u ≡ record { czsc = record { stand = r .stand }; failed = r .failed; made = r .made; broken = r .broken; shed = r .shed } ⌝ }
+{
+    let stand = r.stand;
+    let czsc = Czsc { stand };
+    Updated {
+        czsc,
+        failed: r.failed,
+        made: r.made,
+        broken: r.broken,
+        shed: r.shed,
+    }
+}
+
+// The feed of a stand that question 4 has passed: questions 5 to 12, then the step. Only for callers that prove it sound: those that have just asked question 4 (update_bar, the C names), and the
+// batch call, whose stands come from a fresh analyzer and which asks the one clause that can fail there.
 pub fn feed_sound(
     stand: Stand,
     rt: &mut [i64],
@@ -137,8 +161,8 @@ impl Czsc {
         fs: &mut [[i64; 6]],
         fp: &mut [[f64; 18]],
         b: Bar,
-    ) -> FeedAnswer
-        ensures { λ r. ⌜ FeedIs (self .stand) (before rt ri rp ut ui up uc ue st si sp sc se fs fp) b (r .failed) (r .made) (r .broken) (r .shed) (r .stand) (after rt ri rp ut ui up uc ue st si sp sc se fs fp) × PortDemand3 ⌝ }
+    ) -> Updated
+        ensures { λ r. ⌜ FeedIs (self .stand) (before rt ri rp ut ui up uc ue st si sp sc se fs fp) b (r .failed) (r .made) (r .broken) (r .shed) (r .czsc .stand) (after rt ri rp ut ui up uc ue st si sp sc se fs fp) × PortDemand3 ⌝ }
     {
         let stand = self.stand;
         if question4::is_sound(
@@ -159,7 +183,7 @@ impl Czsc {
             fs,
             fp,
         ) {
-            return feed_sound(
+            let r = feed_sound(
                 stand,
                 rt,
                 ri,
@@ -178,7 +202,8 @@ impl Czsc {
                 fp,
                 b,
             );
+            return handed_back(r);
         }
-        refused(stand, 4)
+        handed_back(refused(stand, 4))
     }
 }

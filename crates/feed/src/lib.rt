@@ -3,4 +3,5 @@ mod feed;
 
 pub use feed::Czsc;
 pub use feed::FeedAnswer;
+pub use feed::Updated;
 pub use feed::feed_sound;

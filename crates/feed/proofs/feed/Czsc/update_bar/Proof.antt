@@ -2,7 +2,7 @@ use mathlib.Core.Path.{_≡_, sym, _∙_}
 use Rattle.strokes.specs.Lent.{Stores, storesOf, held}
 use Rattle.sound.specs.StandSound.{IsSound}
 use Rattle.question4.proofs.Question4Passed.{is-sound}
-use Rattle.feed.proofs.FeedLaws.{feed-4, fed-lengths}
+use Rattle.feed.proofs.FeedLaws.{feed-4, handed-back, fed-lengths}
 use Rattle.feed.proofs.PortDemand3.{port-demand3}
 use borrow.Author.Needs.{needs}
 use Rattle.feed.proofs.feed.Czsc.update_bar.Statement.{statement}
@@ -18,10 +18,10 @@ start c = c .before .before .before .before .before .before .before .before .bef
 abbrev yes : tie.After-feed-sound-arg15 → tie.Then1
 yes c = c .before .before .before .before .before .before .before .before .before .before .before .before .before .before .before
 
-abbrev fed : tie.After-fp → tie.After-feed-sound
-fed c = c .before .before .before .before .before .before .before .before .before .before .before .before .before .before .before .before .before
+abbrev fed : tie.After-handed-back → tie.After-feed-sound
+fed c = c .before .before .before .before .before .before .before .before .before .before .before .before .before .before .before .before .before .before
 
-abbrev yes-fed : tie.After-fp → tie.Then1
+abbrev yes-fed : tie.After-handed-back → tie.Then1
 yes-fed c = yes (fed c .before)
 
 -- the stores that are lent
@@ -39,8 +39,11 @@ sound-at c = is-sound (start (c .before) .args .self .stand) (lent (start (c .be
 feed-sound-requires : tie.Need-feed-sound-requires
 feed-sound-requires c κs = sound-at (yes c)
 
+handed-back-requires : tie.Need-handed-back-requires
+handed-back-requires c κs = search needs
+
 returns : tie.Need-returns
-returns c = (fed c .feed-sound .ensures, port-demand3)
+returns c = (handed-back _ _ (c .handed-back .ensures) (fed c .feed-sound .ensures), port-demand3)
 
 same-length : tie.Need-same-length
 unfolding storesOf
@@ -107,6 +110,9 @@ same-length-15 c = (fed-lengths (sound-at (yes-fed c)) (returns c .0)) .fp
 refused-requires : tie.Need-refused-requires
 refused-requires c κs = search needs
 
+handed-back-requires-2 : tie.Need-handed-back-requires-2
+handed-back-requires-2 c κs = search needs
+
 same-length-16 : tie.Need-same-length-16
 same-length-16 c = search needs
 
@@ -154,9 +160,13 @@ same-length-30 c = search needs
 
 returns-2 : tie.Need-returns-2
 returns-2 c =
-    let o = c .before .before in
+    let n = c .before in
+    let o = n .before .before in
     let a = start o .args in
-    (feed-4 (a .self .stand) (lent (start o)) (a .b) (c .refused .result) (c .refused .ensures) (sym (o .is-sound .ensures) ∙ c .before .if1 .left), port-demand3)
+    (
+      handed-back _ _ (c .handed-back2 .ensures) (feed-4 (a .self .stand) (lent (start o)) (a .b) (n .refused .result) (n .refused .ensures) (sym (o .is-sound .ensures) ∙ n .before .if1 .left)),
+      port-demand3,
+    )
 
 pub update-bar-spec : {M : Type 1} → statement M
 update-bar-spec =
@@ -164,6 +174,7 @@ update-bar-spec =
     (tie.spec
     is-sound-requires
     feed-sound-requires
+    handed-back-requires
     same-length
     same-length-2
     same-length-3
@@ -181,6 +192,7 @@ update-bar-spec =
     same-length-15
     returns
     refused-requires
+    handed-back-requires-2
     same-length-16
     same-length-17
     same-length-18
