@@ -71,7 +71,7 @@ unfinished-ordered (some r) s f = f .0 .ordered
 
 -- ---- elements
 
-called : (u : ℤ) (raw : List Bar) (k : Merged) → Called u raw k → Elements u k → T (isNamed raw k)
+pub called : (u : ℤ) (raw : List Bar) (k : Merged) → Called u raw k → Elements u k → T (isNamed raw k)
 unfolding isNamed
 called u raw k c e = every-of (names raw) (k .elements) (All-zip (k .elements) (λ t g h. g h) c e)
 

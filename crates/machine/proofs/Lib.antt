@@ -21,6 +21,7 @@ pub mod EventsKeep
 pub mod StrokeBuilt
 pub mod TimeFloor
 pub mod ElementsNamed
+pub mod ElementFloors
 pub mod ReachedWell
 pub mod NewestLast
 pub mod GrownBars
@@ -35,4 +36,5 @@ pub mod FewerFractals
 pub mod SameMachine
 pub mod CountsFit
 pub mod ReachedSound
+pub mod ReachedRaw
 pub mod KeptStrokes

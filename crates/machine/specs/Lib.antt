@@ -13,5 +13,6 @@ pub mod KeptStrokes
 pub mod NewestOnly
 pub mod Unsound
 pub mod Reached
+pub mod ReachedRaw
 pub mod ReachedByTime
 pub mod Traps
