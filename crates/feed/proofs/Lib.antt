@@ -5,5 +5,6 @@ pub mod StrokesLeftKept
 pub mod PortMachine
 pub mod PortStays
 pub mod PortReached
+pub mod PortRaw
 pub mod PortDemand3
 pub mod FeedLaws

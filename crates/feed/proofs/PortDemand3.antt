@@ -1,6 +1,5 @@
 -- Demand 3 of the port: the claims of specs/PortClaims, from those of the plain machine. Assumes nothing.
-use Prim.Native.Nat.{ℕ, zero, suc, _+_}
-use native.Mathlib.Omega.{arith}
+use Prim.Native.Nat.{_+_}
 use mathlib.Core.Path.{_≡_, refl, ap, sym, _∙_, subst}
 use mathlib.Core.List.{List, [], map}
 use mathlib.Core.Option.{none}
@@ -8,63 +7,35 @@ use lib.ListN.{length, length-map}
 use lib.Dec.{T}
 use Rattle.bars.specs.declared.Bar.{Bar}
 use Rattle.bars.specs.Lists.{All, join}
-use Rattle.machine.specs.Stand.{State, fresh}
+use Rattle.machine.specs.Stand.{State}
 use Rattle.machine.specs.Feed.{Events}
-use Rattle.machine.specs.Calls.{run, start, calls, accepted, eachLater}
+use Rattle.machine.specs.Calls.{calls, eachLater}
 use Rattle.machine.specs.KeptStrokes.{MeetAll}
 use Rattle.machine.specs.Reached.{Later}
 use Rattle.machine.proofs.ByPlace.{search-by-time}
 use Rattle.machine.proofs.ReachedSound.{reached-by-time}
-use Rattle.strokes.specs.StateRead.{stateOf, bareStroke, bareState}
-use Rattle.sound.proofs.FreshLaws.{fresh-state}
+use Rattle.strokes.specs.StateRead.{bareStroke, bareState}
 use Rattle.zones.specs.Zones.{Zone, summary, getZsSeq}
 use Rattle.zones.specs.Claims.{kept, Inside}
 use Rattle.feed.specs.PortCalls.{acceptedOf, FreshCalls, refusedWith}
 use Rattle.feed.specs.StrokesLeft.{Left}
 use Rattle.feed.specs.PortClaims.{keptOf, machineStrokes, bareEvents, PortDemand3}
 use Rattle.zones.proofs.Demand3.{demand3}
-use Rattle.feed.proofs.PortMachine.{settings, followed, machine, events, unheard}
+use Rattle.feed.proofs.PortMachine.{settings, machine, events, unheard, like}
 use Rattle.feed.proofs.PortReached.{reached-asks, reached-later, reached-shallow}
+use Rattle.feed.proofs.PortRaw.{newest, none-accepted, none-held, named}
 use Rattle.feed.proofs.StrokesLeftKept.{left-kept, left-counted, left-map, only-left}
 use Rattle.feed.proofs.PortAnswers.{zones-answered, zones-told, fakes-answered, fakes-told}
 use Rattle.feed.proofs.BareClaims.{summaries-bare, all-inside-bare, meet-all-bare}
 
 -- ---- the kept strokes are those of a list of the machine's calls
 
-record Like (r : FreshCalls) : Type 0 where
-  bars : List Bar
-  strokes : map bareStroke (kept (settings r) bars) ≡ keptOf r
-  sums : (calls (settings r) bars) .events ≡ r .sums
-  later : T (eachLater none (acceptedOf (r .calls))) → Later (settings r) bars
-
-like-machine : (r : FreshCalls) → refusedWith r ≡ 0 → Like r
+like-strokes : (r : FreshCalls) → map bareStroke (kept (settings r) ((like r) .bars)) ≡ keptOf r
 unfolding kept keptOf bareState
-like-machine r h =
-    record {
-      bars = r .bars;
-      strokes = ap (λ (s : State). s .strokes) (sym (machine r h));
-      sums = sym (events r h);
-      later = λ l. subst (λ (z : List Bar). T (eachLater none z)) ((followed r h) .taken) l;
-    }
+like-strokes r = ap (λ (s : State). s .strokes) (sym ((like r) .state))
 
--- refused: as if no bar had come
-like-none : (r : FreshCalls) → (refusedWith r ≡ 0 → ⊥) → Like r
-unfolding kept keptOf calls run start fresh accepted eachLater
-like-none r h =
-    let j = unheard r h in
-    record {
-      bars = [];
-      strokes = ap (λ (s : State). s .strokes) (sym ((λ i. stateOf (j .stand i) (j .stores i)) ∙ fresh-state (r .minimum) (r .most) (r .lent)));
-      sums = sym (j .events);
-      later = λ l. tt;
-    }
-
-like-if : (r : FreshCalls) (n : ℕ) → refusedWith r ≡ n → Like r
-like-if r zero h = like-machine r h
-like-if r (suc n) h = like-none r (λ z. omega arith)
-
-like : (r : FreshCalls) → Like r
-like r = like-if r (refusedWith r) refl
+like-later : (r : FreshCalls) → T (eachLater none (acceptedOf (r .calls))) → Later (settings r) ((like r) .bars)
+like-later r l = subst (λ (z : List Bar). T (eachLater none z)) ((like r) .taken) l
 
 -- ---- the claims
 
@@ -72,10 +43,11 @@ sums : (r : FreshCalls) → r .sums .made ≡ length (keptOf r) + r .sums .broke
 sums r =
     let k = like r in
     let l = kept (settings r) (k .bars) in
-    let n : length l ≡ length (keptOf r) = sym (length-map l bareStroke) ∙ ap length (k .strokes) in
-    ap (λ (e : Events). e .made) (sym (k .sums))
+    let n : length l ≡ length (keptOf r) = sym (length-map l bareStroke) ∙ ap length (like-strokes r) in
+    let e : (calls (settings r) (k .bars)) .events ≡ r .sums = sym (k .sums) in
+    ap (λ (z : Events). z .made) (k .sums)
     ∙ demand3 .sums (settings r) (k .bars)
-    ∙ (λ i. n i + (k .sums i) .broken + (k .sums i) .shed)
+    ∙ (λ i. n i + (e i) .broken + (e i) .shed)
 
 left : (r : FreshCalls) → refusedWith r ≡ 0 → Left [] (map bareEvents (machineStrokes r)) (keptOf r)
 unfolding keptOf bareState bareEvents
@@ -85,18 +57,18 @@ zoned : (r : FreshCalls) → join (map (λ (z : Zone). z .strokes) (getZsSeq (ma
 zoned r =
     let k = like r in
     let l = kept (settings r) (k .bars) in
-    let e : map summary l ≡ map summary (keptOf r) = sym (summaries-bare l) ∙ ap (map summary) (k .strokes) in
+    let e : map summary l ≡ map summary (keptOf r) = sym (summaries-bare l) ∙ ap (map summary) (like-strokes r) in
     subst (λ z. join (map (λ (y : Zone). y .strokes) (getZsSeq z)) ≡ z) e (demand3 .zoned (settings r) (k .bars))
 
 inside : (r : FreshCalls) → All Inside (keptOf r)
 inside r =
     let k = like r in
-    subst (All Inside) (k .strokes) (all-inside-bare (kept (settings r) (k .bars)) (demand3 .inside (settings r) (k .bars)))
+    subst (All Inside) (like-strokes r) (all-inside-bare (kept (settings r) (k .bars)) (demand3 .inside (settings r) (k .bars)))
 
 meet : (r : FreshCalls) → T (eachLater none (acceptedOf (r .calls))) → MeetAll (keptOf r)
 meet r h =
     let k = like r in
-    subst MeetAll (k .strokes) (meet-all-bare (kept (settings r) (k .bars)) (demand3 .meet (settings r) (k .bars) (k .later h)))
+    subst MeetAll (like-strokes r) (meet-all-bare (kept (settings r) (k .bars)) (demand3 .meet (settings r) (k .bars) (like-later r h)))
 
 pub port-demand3 : PortDemand3
 port-demand3 =
@@ -106,6 +78,10 @@ port-demand3 =
       sound-but = reached-asks;
       sound-later = reached-later;
       sound-shallow = reached-shallow;
+      newest = newest;
+      none-accepted = none-accepted;
+      none-held = none-held;
+      named = named;
       by-time = search-by-time;
       by-time-reached = reached-by-time;
       idle = λ r h. ((unheard r h) .stand, (unheard r h) .stores, (unheard r h) .events);

@@ -1,11 +1,16 @@
--- A list of calls from a fresh analyzer follows the plain machine where that was not refused, and is idle where it was. Assumes nothing.
+-- A list of calls from a fresh analyzer follows the plain machine where that was not refused, and is idle where it was. Either way what is held is what some list of the
+-- machine's calls leaves. Assumes nothing.
+use Prim.Native.Nat.{ℕ, zero, suc}
+use native.Mathlib.Omega.{arith}
 use mathlib.Core.Path.{_≡_, refl, sym, _∙_, subst}
 use mathlib.Core.Bool.{true, _&&_}
+use mathlib.Core.List.{List, []}
 use lib.Dec.{T}
 use lib.Ieee.Fits.{and-l}
+use Rattle.bars.specs.declared.Bar.{Bar}
 use Rattle.machine.specs.Stand.{Settings, fresh}
 use Rattle.machine.specs.Soundness.{sound}
-use Rattle.machine.specs.Calls.{none-yet, start, calls}
+use Rattle.machine.specs.Calls.{none-yet, run, start, calls, accepted}
 use Rattle.strokes.specs.StateRead.{settingsOf, stateOf, sized, bareState}
 use Rattle.sound.specs.StandSound.{storesSound}
 use Rattle.sound.proofs.FreshLaws.{fresh-state, fresh-sound, fresh-unsound}
@@ -13,7 +18,7 @@ use Rattle.question4.specs.Question4.{question4}
 use Rattle.feed.specs.PortCalls.{acceptedOf, FreshCalls, refusedWith, begun}
 use Rattle.feed.proofs.PortFollows.{FollowedAll, follows, Idle, idle, none-added}
 
-fresh-bare : bareState fresh ≡ fresh
+pub fresh-bare : bareState fresh ≡ fresh
 unfolding bareState fresh
 fresh-bare = refl
 
@@ -39,3 +44,30 @@ events r z = sym (none-added (r .sums)) ∙ (followed r z) .events
 pub unheard : (r : FreshCalls) → (refusedWith r ≡ 0 → ⊥) → Idle (r .calls)
 unfolding question4
 unheard r z = idle (r .calls) (fresh-unsound (r .minimum) (r .most) (r .lent) z)
+
+-- ---- a list of the machine's calls that leaves the same
+
+pub record Like (r : FreshCalls) : Type 0 where
+  pub bars : List Bar
+  pub state : stateOf (r .stand) (r .stores) ≡ bareState ((calls (settings r) bars) .state)
+  pub sums : r .sums ≡ (calls (settings r) bars) .events
+  pub taken : acceptedOf (r .calls) ≡ accepted (settings r) fresh bars
+
+-- refused: as if no bar had come
+like-none : (r : FreshCalls) → (refusedWith r ≡ 0 → ⊥) → Like r
+unfolding calls run start accepted
+like-none r z =
+    let j = unheard r z in
+    record {
+      bars = [];
+      state = (λ i. stateOf (j .stand i) (j .stores i)) ∙ fresh-state (r .minimum) (r .most) (r .lent) ∙ sym fresh-bare;
+      sums = j .events;
+      taken = j .taken;
+    }
+
+like-if : (r : FreshCalls) (n : ℕ) → refusedWith r ≡ n → Like r
+like-if r zero z = record { bars = r .bars; state = machine r z; sums = events r z; taken = (followed r z) .taken }
+like-if r (suc n) z = like-none r (λ e. omega arith)
+
+pub like : (r : FreshCalls) → Like r
+like r = like-if r (refusedWith r) refl

@@ -7,12 +7,13 @@ use mathlib.Core.List.{List, [], map}
 use mathlib.Core.Option.{none, some}
 use lib.ListN.{length}
 use lib.Dec.{T}
-use Rattle.bars.specs.Lists.{All, join}
+use Rattle.bars.specs.declared.Bar.{Bar}
+use Rattle.bars.specs.Lists.{All, join, last, every}
 use Rattle.machine.specs.Fractals.{timeOf}
 use Rattle.machine.specs.Strokes.{Stroke, directionOf}
 use Rattle.machine.specs.Stand.{fresh}
 use Rattle.machine.specs.Calls.{calls, none-yet, eachLater}
-use Rattle.machine.specs.Soundness.{newestLast}
+use Rattle.machine.specs.Soundness.{isNamed, newestLast}
 use Rattle.machine.specs.Reached.{Shallow}
 use Rattle.machine.specs.KeptStrokes.{MeetAll}
 use Rattle.machine.specs.SearchByTime.{SearchByTime}
@@ -37,6 +38,11 @@ use Rattle.feed.specs.StrokesLeft.{EventStrokes, strokesOf, counted, Lef
 unfoldable pub keptOf : FreshCalls → List Stroke
 unfolding stateOf
 keptOf r = (stateOf (r .stand) (r .stores)) .strokes
+
+-- the raw bars
+unfoldable pub rawOf : FreshCalls → List Bar
+unfolding stateOf
+rawOf r = (stateOf (r .stand) (r .stores)) .raw
 
 -- the strokes that each call of the plain machine makes, breaks and sheds on the same bars
 abbrev pub machineStrokes : FreshCalls → List EventStrokes
@@ -97,6 +103,14 @@ pub record PortDemand3 : Type 0 where
       → T (eachLater none (acceptedOf (r .calls))) → question4 (r .stand) (r .stores) ≡ true
   pub sound-shallow : (r : FreshCalls) → refusedWith r ≡ 0
       → Shallow (settingsOf (begun r)) fresh (r .bars) → question4 (r .stand) (r .stores) ≡ true
+  -- the newest raw bar is the last bar that was accepted; there is none where none was
+  pub newest : (r : FreshCalls) → last (rawOf r) ≡ last (acceptedOf (r .calls))
+  -- so where a bar was accepted there is a raw bar ..
+  pub none-accepted : (r : FreshCalls) → rawOf r ≡ [] → acceptedOf (r .calls) ≡ []
+  -- .. and without one nothing is held
+  pub none-held : (r : FreshCalls) → rawOf r ≡ [] → stateOf (r .stand) (r .stores) ≡ fresh
+  -- with a stroke kept, the elements of all unfinished bars name kept raw bars, those of the first one too: the unfinished summary is over all of them
+  pub named : (r : FreshCalls) → (keptOf r ≡ [] → ⊥) → T (every (isNamed (rawOf r)) ((stateOf (r .stand) (r .stores)) .unfinished))
   -- the plain machine searches by place and the Rust by time: with rising times both find the same stroke and leave the same bars
   pub by-time : SearchByTime
   -- and on every list of calls the times of the bars that are searched rise, and the kept strokes begin and end at the bars whose times the Rust compares
