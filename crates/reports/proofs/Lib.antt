@@ -1,4 +1,5 @@
 pub mod UnfinishedGiven
+pub mod ReachedUbi
 pub mod MeasureLaws
 pub mod RowEnds
 pub mod ListLaws

@@ -2,6 +2,7 @@ pub mod Measures
 pub mod FractalAnswers
 pub mod FractalList
 pub mod Unfinished
+pub mod ReachedUbi
 pub mod NamedStrokes
 pub mod NamedFractals
 pub mod InnerRawBars

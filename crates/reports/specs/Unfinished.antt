@@ -17,7 +17,8 @@ nonEmpty [] = false
 nonEmpty (a ∷ l) = true
 
 -- For the unfinished summary, is there a stroke, an unfinished bar and a fractal among those? Behind the unfinished bars there has to be a kept raw bar, too,
--- since high and low are those of raw bars: in a sound stand there is one, unless it keeps no raw bar at all. A feed from a sound stand that no list of feeds reached can leave such a one.
+-- since high and low are those of raw bars: in a sound stand there is one, unless it keeps no raw bar at all. A feed from a sound stand that no list of feeds reached can leave such a one;
+-- from a fresh analyzer none does (ReachedUbi).
 unfoldable pub question15 : List Bar → List Merged → List Stroke → Bool
 unfolding nonEmpty atTimes elementsOf checkFxs
 question15 raw l bs = nonEmpty bs && (nonEmpty (atTimes raw (elementsOf l)) && nonEmpty (checkFxs l))
