@@ -2,8 +2,23 @@
 #include <stddef.h>
 #include <stdint.h>
 
-uint64_t czsc_fresh(size_t minimum, size_t most, size_t raw, size_t unfinished, size_t strokes,
-    size_t (*numbers)[8], size_t numbers_len, size_t (*counts)[65], size_t counts_len);
+uint64_t czsc_fresh(size_t minimum, size_t most,
+    size_t (*numbers)[8], size_t numbers_len, size_t (*counts)[65], size_t counts_len,
+    const int64_t *rt, size_t rt_len,
+    const int32_t *ri, size_t ri_len,
+    const double (*rp)[6], size_t rp_len,
+    const int64_t *ut, size_t ut_len,
+    const int32_t *ui, size_t ui_len,
+    const double (*up)[6], size_t up_len,
+    const size_t *uc, size_t uc_len,
+    const int64_t (*ue)[101], size_t ue_len,
+    const int64_t *st, size_t st_len,
+    const int32_t *si, size_t si_len,
+    const double (*sp)[6], size_t sp_len,
+    const size_t *sc, size_t sc_len,
+    const int64_t (*se)[101], size_t se_len,
+    const int64_t (*fs)[6], size_t fs_len,
+    const double (*fp)[18], size_t fp_len);
 
 uint64_t czsc_update_bar(size_t (*numbers)[8], size_t numbers_len, size_t (*counts)[65], size_t counts_len, uint64_t (*events)[3], size_t events_len,
     int64_t *rt, size_t rt_len,
@@ -23,7 +38,7 @@ uint64_t czsc_update_bar(size_t (*numbers)[8], size_t numbers_len, size_t (*coun
     double (*fp)[18], size_t fp_len,
     int64_t time, int32_t id, double open, double close, double high, double low, double vol, double amount);
 
-uint64_t czsc_feed_all(size_t minimum, size_t most, size_t raw, size_t unfinished, size_t strokes,
+uint64_t czsc_feed_all(size_t minimum, size_t most,
     size_t (*numbers)[8], size_t numbers_len, size_t (*counts)[65], size_t counts_len, uint64_t (*sums)[4], size_t sums_len,
     int64_t *rt, size_t rt_len,
     int32_t *ri, size_t ri_len,

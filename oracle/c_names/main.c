@@ -6,6 +6,9 @@
 #include <string.h>
 
 #define ROOM 64
+/* rows that are only read */
+#define ROWS(n, p) ((const double (*)[n])(p))
+#define TIMES(n, p) ((const int64_t (*)[n])(p))
 
 struct memory {
   size_t numbers[2][8];
@@ -33,12 +36,16 @@ static struct memory now, old;
 static size_t full[15];
 static int tried, wrong;
 
+static uint64_t fresh_with(struct memory *m, size_t minimum, size_t most, size_t ns, size_t cs, const size_t *len) {
+  return czsc_fresh(minimum, most, m->numbers, ns, m->counts, cs, m->rt, len[0], m->ri, len[1], ROWS(6, m->rp), len[2], m->ut, len[3], m->ui, len[4], ROWS(6, m->up), len[5], m->uc, len[6], TIMES(101, m->ue), len[7], m->st, len[8], m->si, len[9], ROWS(6, m->sp), len[10], m->sc, len[11], TIMES(101, m->se), len[12], TIMES(6, m->fs), len[13], ROWS(18, m->fp), len[14]);
+}
+
 static uint64_t feed_with(struct memory *m, size_t ns, size_t cs, size_t es, const size_t *len, int64_t t, double high, double low, double vol) {
   return czsc_update_bar(m->numbers, ns, m->counts, cs, m->events, es, m->rt, len[0], m->ri, len[1], m->rp, len[2], m->ut, len[3], m->ui, len[4], m->up, len[5], m->uc, len[6], m->ue, len[7], m->st, len[8], m->si, len[9], m->sp, len[10], m->sc, len[11], m->se, len[12], m->fs, len[13], m->fp, len[14], t, 1, low, high, high, low, vol, 1.0);
 }
 
-static uint64_t all_with(struct memory *m, size_t minimum, size_t most, size_t raw, size_t ns, size_t cs, size_t ss, const size_t *len, const int64_t *bt, const int32_t *bi, double (*bp)[6], size_t n) {
-  return czsc_feed_all(minimum, most, raw, ROOM, ROOM, m->numbers, ns, m->counts, cs, m->sums, ss, m->rt, len[0], m->ri, len[1], m->rp, len[2], m->ut, len[3], m->ui, len[4], m->up, len[5], m->uc, len[6], m->ue, len[7], m->st, len[8], m->si, len[9], m->sp, len[10], m->sc, len[11], m->se, len[12], m->fs, len[13], m->fp, len[14], bt, n, bi, n, (const double (*)[6])bp, n);
+static uint64_t all_with(struct memory *m, size_t minimum, size_t most, size_t ns, size_t cs, size_t ss, const size_t *len, const int64_t *bt, const int32_t *bi, double (*bp)[6], size_t n) {
+  return czsc_feed_all(minimum, most, m->numbers, ns, m->counts, cs, m->sums, ss, m->rt, len[0], m->ri, len[1], m->rp, len[2], m->ut, len[3], m->ui, len[4], m->up, len[5], m->uc, len[6], m->ue, len[7], m->st, len[8], m->si, len[9], m->sp, len[10], m->sc, len[11], m->se, len[12], m->fs, len[13], m->fp, len[14], bt, n, bi, n, ROWS(6, bp), n);
 }
 
 /* The call answered `got`; `want` was expected, and no byte changed. */
@@ -64,14 +71,20 @@ int main(void) {
   memset(&now, 0x5a, sizeof now);
   memcpy(&old, &now, sizeof now);
   double nan = strtod("nan", 0), zero = 0.0;
-  refused("fresh, minimum 65", czsc_fresh(65, 0, ROOM, ROOM, ROOM, now.numbers, 1, now.counts, 2), 1);
-  refused("fresh, most 65", czsc_fresh(0, 65, ROOM, ROOM, ROOM, now.numbers, 1, now.counts, 2), 2);
-  refused("fresh, a store of 15", czsc_fresh(0, 0, ROOM, 15, ROOM, now.numbers, 1, now.counts, 2), 3);
-  refused("fresh, no row of numbers", czsc_fresh(0, 0, ROOM, ROOM, ROOM, now.numbers, 0, now.counts, 2), 14);
-  refused("fresh, one row of counts", czsc_fresh(0, 0, ROOM, ROOM, ROOM, now.numbers, 1, now.counts, 1), 14);
-  refused("fresh, minimum 65 and no rows", czsc_fresh(65, 0, ROOM, ROOM, ROOM, now.numbers, 0, now.counts, 0), 1);
+  size_t len[15];
+  refused("fresh, minimum 65", fresh_with(&now, 65, 0, 1, 2, full), 1);
+  refused("fresh, most 65", fresh_with(&now, 0, 65, 1, 2, full), 2);
+  for (int i = 0; i < 15; i++) {
+    memcpy(len, full, sizeof len); len[i] = ROOM - 1;
+    refused("fresh, a column of another length", fresh_with(&now, 0, 0, 1, 2, len), 3);
+  }
+  memcpy(len, full, sizeof len); for (int i = 3; i < 8; i++) len[i] = 15;
+  refused("fresh, a store of 15", fresh_with(&now, 0, 0, 1, 2, len), 3);
+  refused("fresh, no row of numbers", fresh_with(&now, 0, 0, 0, 2, full), 14);
+  refused("fresh, one row of counts", fresh_with(&now, 0, 0, 1, 1, full), 14);
+  refused("fresh, minimum 65 and no rows", fresh_with(&now, 65, 0, 0, 0, full), 1);
   refused("a feed to no stand", feed_with(&now, 2, 3, 2, full, 1, 10, 8, 1), 4);
-  answered("fresh", czsc_fresh(3, 2, ROOM, ROOM, ROOM, now.numbers, 2, now.counts, 3));
+  answered("fresh", fresh_with(&now, 3, 2, 2, 3, full));
   int64_t t = 0;
   uint64_t made = 0;
   for (int k = 0; k < 400; k++) {
@@ -80,7 +93,7 @@ int main(void) {
     refused("one row of counts", feed_with(&now, 2, 1, 2, full, t + 1, base + 2, base, 1), 4);
     refused("no row of events", feed_with(&now, 2, 3, 0, full, t + 1, base + 2, base, 1), 14);
     for (int i = 0; i < 15; i++) {
-      size_t len[15]; memcpy(len, full, sizeof len); len[i] = i % 2 ? 0 : ROOM - 1;
+      memcpy(len, full, sizeof len); len[i] = i % 2 ? 0 : ROOM - 1;
       refused("a column too short", feed_with(&now, 2, 3, 2, len, t + 1, base + 2, base, 1), 4);
     }
     refused("a time beyond 2^40", feed_with(&now, 2, 3, 2, full, 1099511627777, base + 2, base, 1), 5);
@@ -96,29 +109,31 @@ int main(void) {
   }
   if (!made) { wrong++; printf("no stroke was made\n"); }
   /* a stand that is not sound */
+  if (!now.numbers[0][7]) { wrong++; printf("no stroke is kept\n"); }
+  double vol = now.fp[0][16]; now.fp[0][16] = nan; memcpy(&old, &now, sizeof now);
+  refused("a fractal's third bar with a volume that is no number", feed_with(&now, 2, 3, 2, full, t + 1, 30, 20, 1), 4);
+  now.fp[0][16] = vol;
   now.numbers[0][7] = 65; memcpy(&old, &now, sizeof now);
   refused("65 strokes", feed_with(&now, 2, 3, 2, full, t + 1, 30, 20, 1), 4);
   /* a list of bars */
   int64_t bt[3] = {1, 2, 2}; int32_t bi[3] = {1, 2, 3};
   double bp[3][6] = {{8, 10, 10, 8, 1, 1}, {9, 12, 12, 9, 1, 1}, {9, 8, 8, 9, 1, 1}};
-  refused("all, minimum 65", all_with(&now, 65, 0, ROOM, 2, 3, 2, full, bt, bi, bp, 3), 1);
-  refused("all, most 65", all_with(&now, 0, 65, ROOM, 2, 3, 2, full, bt, bi, bp, 3), 2);
-  refused("all, a store of 15", all_with(&now, 0, 0, 15, 2, 3, 2, full, bt, bi, bp, 3), 3);
-  refused("all, no row of numbers", all_with(&now, 0, 0, ROOM, 0, 3, 2, full, bt, bi, bp, 3), 14);
-  refused("all, one row of counts", all_with(&now, 0, 0, ROOM, 2, 1, 2, full, bt, bi, bp, 3), 14);
-  refused("all, no row of sums", all_with(&now, 0, 0, ROOM, 2, 3, 0, full, bt, bi, bp, 3), 14);
-  answered("all, two bars", all_with(&now, 0, 0, ROOM, 2, 3, 2, full, bt, bi, bp, 2));
+  refused("all, minimum 65", all_with(&now, 65, 0, 2, 3, 2, full, bt, bi, bp, 3), 1);
+  refused("all, most 65", all_with(&now, 0, 65, 2, 3, 2, full, bt, bi, bp, 3), 2);
+  memcpy(len, full, sizeof len); for (int i = 0; i < 3; i++) len[i] = 15;
+  refused("all, a store of 15", all_with(&now, 0, 0, 2, 3, 2, len, bt, bi, bp, 3), 3);
+  refused("all, no row of numbers", all_with(&now, 0, 0, 0, 3, 2, full, bt, bi, bp, 3), 14);
+  refused("all, one row of counts", all_with(&now, 0, 0, 2, 1, 2, full, bt, bi, bp, 3), 14);
+  refused("all, no row of sums", all_with(&now, 0, 0, 2, 3, 0, full, bt, bi, bp, 3), 14);
+  answered("all, two bars", all_with(&now, 0, 0, 2, 3, 2, full, bt, bi, bp, 2));
   if (now.sums[0][3] != 2) { wrong++; printf("all: %llu bars told\n", (unsigned long long)now.sums[0][3]); }
-  uint64_t f = all_with(&now, 0, 0, ROOM, 2, 3, 2, full, bt, bi, bp, 3);
+  uint64_t f = all_with(&now, 0, 0, 2, 3, 2, full, bt, bi, bp, 3);
   tried++;
   if (f != 8 || now.sums[0][3] != 2) { wrong++; printf("all, the third bar refused: %llu after %llu bars\n", (unsigned long long)f, (unsigned long long)now.sums[0][3]); }
-  /* a column of another length than was said: 4, the fresh stand, sums of 0, and columns as they were */
   memcpy(&old, &now, sizeof now);
-  size_t len[15]; memcpy(len, full, sizeof len); len[9] = ROOM - 1;
-  f = all_with(&now, 0, 0, ROOM, 2, 3, 2, len, bt, bi, bp, 3);
-  tried++;
-  if (f != 4 || now.sums[0][3] || now.numbers[0][5] || memcmp(&now.rt, &old.rt, sizeof now - ((char *)&now.rt - (char *)&now))) {
-    wrong++; printf("all, a column too short: %llu\n", (unsigned long long)f);
+  for (int i = 0; i < 15; i++) {
+    memcpy(len, full, sizeof len); len[i] = ROOM - 1;
+    refused("all, a column of another length", all_with(&now, 0, 0, 2, 3, 2, len, bt, bi, bp, 3), 3);
   }
   printf("%d calls, %d strokes made, %d wrong\n", tried, (int)made, wrong);
   return wrong != 0;

@@ -11,7 +11,6 @@ use lib.IntN.{ℤ}
 use lib.Ieee.{Float}
 use Rattle.bars.specs.declared.Bar.{Bar}
 use Rattle.machine.specs.FeedQuestions.{orElse}
-use Rattle.strokes.specs.declared.Rooms.{Rooms}
 use Rattle.strokes.specs.declared.Stand.{Stand}
 use Rattle.strokes.specs.Lent.{Stores}
 use Rattle.strokes.specs.Packed.{packed, numbersWith, countsWith, rowsThere}
@@ -22,9 +21,6 @@ use Rattle.feed.specs.declared.feed.FeedAnswer.{FeedAnswer}
 use Rattle.feed.specs.PortCalls.{FeedIs}
 use Rattle.batch.specs.declared.batch.BatchAnswer.{BatchAnswer}
 use Rattle.batch.specs.BatchCalls.{BatchIs}
-
-abbrev pub roomsWith : ℕ → ℕ → ℕ → Rooms
-roomsWith r u s = record { raw = r; unfinished = u; strokes = s }
 
 abbrev pub barWith : ℤ → ℤ → Float → Float → Float → Float → Float → Float → Bar
 barWith t i o c h l v a = record { time = t; id = i; «open» = o; close = c; high = h; low = l; vol = v; amount = a }
@@ -88,15 +84,15 @@ unfolding failedFirstIf rowsThere
 failedFirst a ns cs ss = failedFirstIf (a .refused) (rowsThere ns cs && leb 1 (length ss))
 
 -- the answer r of the batch call, whose number is f, is handed over
-pub record SumsHanded (minimum most : ℕ) (rooms : Rooms) (ns cs ss : List (List ℕ)) (m : Stores) (bars : List Bar) (f : ℕ) (ns' cs' ss' : List (List ℕ)) (m' : Stores) : Type 0 where
+pub record SumsHanded (minimum most : ℕ) (ns cs ss : List (List ℕ)) (m : Stores) (bars : List Bar) (f : ℕ) (ns' cs' ss' : List (List ℕ)) (m' : Stores) : Type 0 where
   pub answer : BatchAnswer
-  pub batch : BatchIs minimum most rooms m bars answer m'
+  pub batch : BatchIs minimum most m bars answer m'
   pub number : f ≡ answer .failed
   pub numbers : ns' ≡ numbersWith (answer .stand) ns
   pub counts : cs' ≡ countsWith (answer .stand) cs
   pub sums : ss' ≡ set ss 0 (answer .made ∷ answer .broken ∷ answer .shed ∷ answer .fed ∷ [])
 
-pub record BatchHanded (minimum most : ℕ) (rooms : Rooms) (ns cs ss : List (List ℕ)) (m : Stores) (bars : List Bar) (f : ℕ) (ns' cs' ss' : List (List ℕ)) (m' : Stores) : Type 0 where
-  pub before : (failedFirst (freshOf minimum most rooms) ns cs ss ≡ 0 → ⊥)
-      → (f ≡ failedFirst (freshOf minimum most rooms) ns cs ss) × (ns' ≡ ns) × (cs' ≡ cs) × (ss' ≡ ss) × (m' ≡ m)
-  pub fed : failedFirst (freshOf minimum most rooms) ns cs ss ≡ 0 → SumsHanded minimum most rooms ns cs ss m bars f ns' cs' ss' m'
+pub record BatchHanded (minimum most : ℕ) (ns cs ss : List (List ℕ)) (m : Stores) (bars : List Bar) (f : ℕ) (ns' cs' ss' : List (List ℕ)) (m' : Stores) : Type 0 where
+  pub before : (failedFirst (freshOf minimum most m) ns cs ss ≡ 0 → ⊥)
+      → (f ≡ failedFirst (freshOf minimum most m) ns cs ss) × (ns' ≡ ns) × (cs' ≡ cs) × (ss' ≡ ss) × (m' ≡ m)
+  pub fed : failedFirst (freshOf minimum most m) ns cs ss ≡ 0 → SumsHanded minimum most ns cs ss m bars f ns' cs' ss' m'

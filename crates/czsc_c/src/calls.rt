@@ -10,35 +10,59 @@ ghost use Rattle.strokes.specs.Packed.{packed};
 ghost use Rattle.sound.specs.StandSound.{IsSound};
 ghost use Rattle.sound.specs.FreshStand.{freshOf};
 ghost use Rattle.batch.specs.BatchCalls.{BatchIs};
-ghost use Rattle.czsc_c.specs.Handed.{roomsWith, barWith, standHanded, freshHanded, failedBefore, FedHanded, UpdateHanded, failedFirst, SumsHanded, BatchHanded};
+ghost use Rattle.czsc_c.specs.Handed.{barWith, standHanded, freshHanded, failedBefore, FedHanded, UpdateHanded, failedFirst, SumsHanded, BatchHanded};
 use crate::handed::hand_over;
 use crate::handed::hand_over_all;
 use bars::Bar;
-use strokes::Rooms;
 use strokes::Stand;
 use strokes::pack;
 use strokes::rows_there;
 use strokes::unpack;
 
-// A fresh analyzer, whose stand is packed: questions 1 to 3, then 14.
+// A fresh analyzer for the lent stores, whose stand is packed: questions 1 to 3, then 14.
 #[no_mangle]
 pub extern "C" fn czsc_fresh(
     minimum: usize,
     most: usize,
-    raw: usize,
-    unfinished: usize,
-    strokes: usize,
     numbers: &mut [[usize; 8]],
     counts: &mut [[usize; 65]],
+    rt: &[i64],
+    ri: &[i32],
+    rp: &[[f64; 6]],
+    ut: &[i64],
+    ui: &[i32],
+    up: &[[f64; 6]],
+    uc: &[usize],
+    ue: &[[i64; 101]],
+    st: &[i64],
+    si: &[i32],
+    sp: &[[f64; 6]],
+    sc: &[usize],
+    se: &[[i64; 101]],
+    fs: &[[i64; 6]],
+    fp: &[[f64; 18]],
 ) -> u64
-    ensures { λ f. ⌜ standHanded f (now (numbers .exit)) (now (counts .exit)) ≡ freshHanded (freshOf minimum most (roomsWith raw unfinished strokes)) (now (numbers .entry)) (now (counts .entry)) ⌝ }
+    ensures { λ f. ⌜ standHanded f (now (numbers .exit)) (now (counts .exit)) ≡ freshHanded (freshOf minimum most (before rt ri rp ut ui up uc ue st si sp sc se fs fp)) (now (numbers .entry)) (now (counts .entry)) ⌝ }
 {
-    let rooms = Rooms {
-        raw,
-        unfinished,
-        strokes,
-    };
-    let r = sound::fresh(minimum, most, rooms);
+    let r = sound::fresh(
+        minimum,
+        most,
+        rt,
+        ri,
+        rp,
+        ut,
+        ui,
+        up,
+        uc,
+        ue,
+        st,
+        si,
+        sp,
+        sc,
+        se,
+        fs,
+        fp,
+    );
     let failed = r.refused;
     if failed != 0 {
         return failed;
@@ -244,14 +268,46 @@ pub extern "C" fn czsc_update_bar(
 fn failed_first(
     minimum: usize,
     most: usize,
-    rooms: Rooms,
     numbers: &[[usize; 8]],
     counts: &[[usize; 65]],
     sums: &[[u64; 4]],
+    rt: &[i64],
+    ri: &[i32],
+    rp: &[[f64; 6]],
+    ut: &[i64],
+    ui: &[i32],
+    up: &[[f64; 6]],
+    uc: &[usize],
+    ue: &[[i64; 101]],
+    st: &[i64],
+    si: &[i32],
+    sp: &[[f64; 6]],
+    sc: &[usize],
+    se: &[[i64; 101]],
+    fs: &[[i64; 6]],
+    fp: &[[f64; 18]],
 ) -> u64
-    ensures { λ r. ⌜ r ≡ failedFirst (freshOf minimum most rooms) (now (numbers .entry)) (now (counts .entry)) (now (sums .entry)) ⌝ }
+    ensures { λ r. ⌜ r ≡ failedFirst (freshOf minimum most (before rt ri rp ut ui up uc ue st si sp sc se fs fp)) (now (numbers .entry)) (now (counts .entry)) (now (sums .entry)) ⌝ }
 {
-    let r = sound::fresh(minimum, most, rooms);
+    let r = sound::fresh(
+        minimum,
+        most,
+        rt,
+        ri,
+        rp,
+        ut,
+        ui,
+        up,
+        uc,
+        ue,
+        st,
+        si,
+        sp,
+        sc,
+        se,
+        fs,
+        fp,
+    );
     let failed = r.refused;
     if failed != 0 {
         return failed;
@@ -269,7 +325,6 @@ fn failed_first(
 fn feed_packed(
     minimum: usize,
     most: usize,
-    rooms: Rooms,
     numbers: &mut [[usize; 8]],
     counts: &mut [[usize; 65]],
     sums: &mut [[u64; 4]],
@@ -293,12 +348,11 @@ fn feed_packed(
     bp: &[[f64; 6]],
 ) -> u64
     requires { ⌜ (1 ≤ length (now numbers)) × (2 ≤ length (now counts)) × (1 ≤ length (now sums)) ⌝ }
-    ensures { λ f. ⌜ SumsHanded minimum most rooms (now (numbers .entry)) (now (counts .entry)) (now (sums .entry)) (before rt ri rp ut ui up uc ue st si sp sc se fs fp) (rawBars (rawBefore bt bi bp)) f (now (numbers .exit)) (now (counts .exit)) (now (sums .exit)) (after rt ri rp ut ui up uc ue st si sp sc se fs fp) ⌝ }
+    ensures { λ f. ⌜ SumsHanded minimum most (now (numbers .entry)) (now (counts .entry)) (now (sums .entry)) (before rt ri rp ut ui up uc ue st si sp sc se fs fp) (rawBars (rawBefore bt bi bp)) f (now (numbers .exit)) (now (counts .exit)) (now (sums .exit)) (after rt ri rp ut ui up uc ue st si sp sc se fs fp) ⌝ }
 {
     let r = batch::feed_all(
         minimum,
         most,
-        rooms,
         rt,
         ri,
         rp,
@@ -326,9 +380,6 @@ fn feed_packed(
 pub extern "C" fn czsc_feed_all(
     minimum: usize,
     most: usize,
-    raw: usize,
-    unfinished: usize,
-    strokes: usize,
     numbers: &mut [[usize; 8]],
     counts: &mut [[usize; 65]],
     sums: &mut [[u64; 4]],
@@ -351,21 +402,36 @@ pub extern "C" fn czsc_feed_all(
     bi: &[i32],
     bp: &[[f64; 6]],
 ) -> u64
-    ensures { λ f. ⌜ BatchHanded minimum most (roomsWith raw unfinished strokes) (now (numbers .entry)) (now (counts .entry)) (now (sums .entry)) (before rt ri rp ut ui up uc ue st si sp sc se fs fp) (rawBars (rawBefore bt bi bp)) f (now (numbers .exit)) (now (counts .exit)) (now (sums .exit)) (after rt ri rp ut ui up uc ue st si sp sc se fs fp) ⌝ }
+    ensures { λ f. ⌜ BatchHanded minimum most (now (numbers .entry)) (now (counts .entry)) (now (sums .entry)) (before rt ri rp ut ui up uc ue st si sp sc se fs fp) (rawBars (rawBefore bt bi bp)) f (now (numbers .exit)) (now (counts .exit)) (now (sums .exit)) (after rt ri rp ut ui up uc ue st si sp sc se fs fp) ⌝ }
 {
-    let rooms = Rooms {
-        raw,
-        unfinished,
-        strokes,
-    };
-    let failed = failed_first(minimum, most, rooms, numbers, counts, sums);
+    let failed = failed_first(
+        minimum,
+        most,
+        numbers,
+        counts,
+        sums,
+        rt,
+        ri,
+        rp,
+        ut,
+        ui,
+        up,
+        uc,
+        ue,
+        st,
+        si,
+        sp,
+        sc,
+        se,
+        fs,
+        fp,
+    );
     if failed != 0 {
         return failed;
     }
     feed_packed(
         minimum,
         most,
-        rooms,
         numbers,
         counts,
         sums,

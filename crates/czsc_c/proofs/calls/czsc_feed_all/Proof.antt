@@ -1,5 +1,4 @@
 use Rattle.czsc_c.proofs.HandedLaws.{refused-first, places, all-then}
-use Rattle.czsc_c.specs.Handed.{roomsWith}
 use Rattle.stores.specs.Lent.{rawHeld}
 use Rattle.stores.specs.Stores.{rawBars}
 use Rattle.strokes.specs.Lent.{Stores, held}
@@ -27,10 +26,10 @@ same-length-3 : tie.Need-same-length-3
 same-length-3 c = search needs
 
 returns : tie.Need-returns
-returns c = let s = c .before .before .before .before .before .before .before in let a = s .args in refused-first (a .minimum) (a .most) (roomsWith (a .raw) (a .unfinished) (a .strokes)) (a .numbers .now) (a .counts .now) (a .sums .now) (lent s) (rawBars (rawHeld (a .bt) (a .bi) (a .bp))) _ (c .before .failed-first .ensures) (c .if1 .taken)
+returns c = let s = c .before .before .before .before .before .before .before in let a = s .args in refused-first (a .minimum) (a .most) (a .numbers .now) (a .counts .now) (a .sums .now) (lent s) (rawBars (rawHeld (a .bt) (a .bi) (a .bp))) _ (c .before .failed-first .ensures) (c .if1 .taken)
 
 feed-packed-requires : tie.Need-feed-packed-requires
-feed-packed-requires c κs = let s = c .before .before .before .before .before .before .before .before .before .before .before .before .before .before .before .before .before .before .before .before .before .before .before .before .before in let a = s .args in places (a .minimum) (a .most) (roomsWith (a .raw) (a .unfinished) (a .strokes)) (a .numbers .now) (a .counts .now) (a .sums .now) (sym (c .before .before .before .before .before .before .before .before .before .before .before .before .before .before .before .before .before .before .before .failed-first .ensures) ∙ c .before .before .before .before .before .before .before .before .before .before .before .before .before .before .before .before .before .before .if1 .left)
+feed-packed-requires c κs = let s = c .before .before .before .before .before .before .before .before .before .before .before .before .before .before .before .before .before .before .before .before .before .before .before .before .before in let a = s .args in places (a .minimum) (a .most) (a .numbers .now) (a .counts .now) (a .sums .now) (lent s) (sym (c .before .before .before .before .before .before .before .before .before .before .before .before .before .before .before .before .before .before .before .failed-first .ensures) ∙ c .before .before .before .before .before .before .before .before .before .before .before .before .before .before .before .before .before .before .if1 .left)
 
 same-length-4 : tie.Need-same-length-4
 same-length-4 c = c .before .before .before .before .before .before .before .before .before .before .before .before .before .before .before .before .before .before .before .numbers .given
@@ -87,7 +86,7 @@ same-length-21 : tie.Need-same-length-21
 same-length-21 c = c .fp .given
 
 returns-2 : tie.Need-returns-2
-returns-2 c = let s = c .before .before .before .before .before .before .before .before .before .before .before .before .before .before .before .before .before .before .before .before .before .before .before .before .before .before .before .before .before .before .before .before .before .before .before .before .before .before .before .before .before .before .before .before .before .before in let a = s .args in all-then (a .minimum) (a .most) (roomsWith (a .raw) (a .unfinished) (a .strokes)) (a .numbers .now) (a .counts .now) (a .sums .now) (sym (c .before .before .before .before .before .before .before .before .before .before .before .before .before .before .before .before .before .before .before .before .before .before .before .before .before .before .before .before .before .before .before .before .before .before .before .before .before .before .before .before .failed-first .ensures) ∙ c .before .before .before .before .before .before .before .before .before .before .before .before .before .before .before .before .before .before .before .before .before .before .before .before .before .before .before .before .before .before .before .before .before .before .before .before .before .before .before .if1 .left) (c .before .before .before .before .before .before .before .before .before .before .before .before .before .before .before .before .before .before .before .before .feed-packed .ensures)
+returns-2 c = let s = c .before .before .before .before .before .before .before .before .before .before .before .before .before .before .before .before .before .before .before .before .before .before .before .before .before .before .before .before .before .before .before .before .before .before .before .before .before .before .before .before .before .before .before .before .before .before in let a = s .args in all-then (a .minimum) (a .most) (a .numbers .now) (a .counts .now) (a .sums .now) (lent s) (sym (c .before .before .before .before .before .before .before .before .before .before .before .before .before .before .before .before .before .before .before .before .before .before .before .before .before .before .before .before .before .before .before .before .before .before .before .before .before .before .before .before .failed-first .ensures) ∙ c .before .before .before .before .before .before .before .before .before .before .before .before .before .before .before .before .before .before .before .before .before .before .before .before .before .before .before .before .before .before .before .before .before .before .before .before .before .before .before .if1 .left) (c .before .before .before .before .before .before .before .before .before .before .before .before .before .before .before .before .before .before .before .before .feed-packed .ensures)
 
 pub czsc-feed-all-spec : {M : Type 1} → statement M
 czsc-feed-all-spec =
