@@ -2,15 +2,13 @@
 -- calls that grow at the end. Assumes nothing.
 use Prim.Native.Nat.{ℕ, zero, suc}
 use mathlib.Core.Path.{_≡_, refl, ap, sym, _∙_, subst}
-use mathlib.Core.Bool.{true}
 use mathlib.Core.List.{List, [], _∷_, _++_}
 use Rattle.bars.specs.declared.Bar.{Bar}
 use Rattle.machine.specs.Feed.{Events}
 use Rattle.machine.specs.Calls.{calls}
 use Rattle.strokes.specs.declared.Stand.{Stand}
-use Rattle.strokes.specs.StateRead.{storesSized}
 use Rattle.strokes.specs.Lent.{Stores}
-use Rattle.feed.specs.PortCalls.{FeedIs, added, PortCalls, none, call, acceptedIf, acceptedOf, FreshCalls, begun}
+use Rattle.feed.specs.PortCalls.{FeedIs, added, PortCalls, none, call, acceptedIf, acceptedOf, FreshCalls}
 use Rattle.batch.specs.BatchCalls.{AllAccepted}
 use Rattle.batch.specs.Code.BatchSteps.{NewestAsked, Begun}
 use Rattle.feed.proofs.PortFollows.{added-assoc, added-none, none-added}
@@ -66,7 +64,6 @@ begun-asks {t = t} {m = m} {k = k} {bs = bs} {e = e} b p =
     record {
       minimum = b .minimum;
       most = b .most;
-      rooms = b .rooms;
       lent = m;
       bars = bs;
       sums = e;
@@ -74,5 +71,4 @@ begun-asks {t = t} {m = m} {k = k} {bs = bs} {e = e} b p =
       stores = k;
       calls = subst (λ (z : Stand). PortCalls z m bs e t k) (sym (b .stand)) p;
     } in
-    let h : storesSized (begun r) m ≡ true = subst (λ (z : Stand). storesSized z m ≡ true) (sym (b .stand)) (b .stores) in
-    record { sizes = reached-sizes r (b .answered) h; question = reached-asks r (b .answered) h }
+    record { sizes = reached-sizes r (b .answered); question = reached-asks r (b .answered) }

@@ -18,9 +18,8 @@ use Rattle.machine.specs.FeedQuestions.{orElse, failedAfter4}
 use Rattle.machine.specs.Calls.{none-yet}
 use Rattle.machine.specs.Reached.{OneEach}
 use Rattle.machine.proofs.ReachedSound.{reached-sound}
-use Rattle.strokes.specs.declared.Rooms.{Rooms}
 use Rattle.strokes.specs.declared.Stand.{Stand}
-use Rattle.strokes.specs.StateRead.{settingsOf, stateOf, storesSized, sized}
+use Rattle.strokes.specs.StateRead.{settingsOf, stateOf, sized}
 use Rattle.strokes.specs.Lent.{Stores}
 use Rattle.sound.specs.declared.fresh_stand.FreshAnswer.{FreshAnswer}
 use Rattle.sound.specs.FreshStand.{freshOf}
@@ -57,10 +56,6 @@ pub newest-sound : (s : Stand) (m : Stores) (t : Bool) → NewestAsked s m → t
 newest-sound s m t a e f = is-sound s m (a .question ∙ sym e ∙ f)
 
 -- stores of other lengths
-unsized : (s : Stand) (m : Stores) → storesSized s m ≡ false → sized s m ≡ false
-unfolding sized
-unsized s m e = rw e
-
 -- ---- before the bar at place i
 
 pub record Going (s : Stand) (m : Stores) (bars : List Bar) (i made broken shed : ℕ) (t : Stand) (k : Stores) : Type 0 where
@@ -292,28 +287,17 @@ same-lengths can o = calls-lengths (o .going .fed .calls) ((begun-asks (can .beg
 
 -- ---- the call
 
--- stores of other lengths: the first bar is answered 4
-pub first-refused : (s : Stand) (m : Stores) (bars : List Bar) → storesSized s m ≡ false → (length bars ≡ 0 → ⊥)
-    → BatchFed s m bars (record { stand = s; fed = 0; failed = 4; made = 0; broken = 0; shed = 0 }) m
-first-refused s m [] e nz = absurd (nz refl)
-first-refused s m (b ∷ bars) e nz =
-    going-stop b (going-start s m (b ∷ bars)) (omega arith) refl (refusal s m b (refused-4 s m b (unsized s m e))) (λ z. omega arith)
-
--- no bar: nothing is asked
-pub none-fed : (s : Stand) (m : Stores) (bars : List Bar) → length bars ≡ 0 → BatchFed s m bars (record { stand = s; fed = 0; failed = 0; made = 0; broken = 0; shed = 0 }) m
-none-fed s m bars e = going-end (going-start s m bars) (omega arith)
-
-pub batch-refused : (minimum most : ℕ) (rooms : Rooms) (m : Stores) (bars : List Bar) (a : FreshAnswer) → a ≡ freshOf minimum most rooms → (a .refused ≡ 0 → ⊥)
-    → BatchIs minimum most rooms m bars (record { stand = a .stand; fed = 0; failed = a .refused; made = 0; broken = 0; shed = 0 }) m
-batch-refused minimum most rooms m bars a e nz =
+pub batch-refused : (minimum most : ℕ) (m : Stores) (bars : List Bar) (a : FreshAnswer) → a ≡ freshOf minimum most m → (a .refused ≡ 0 → ⊥)
+    → BatchIs minimum most m bars (record { stand = a .stand; fed = 0; failed = a .refused; made = 0; broken = 0; shed = 0 }) m
+batch-refused minimum most m bars a e nz =
     record {
       refused = λ h. record { failed = ap (λ (z : FreshAnswer). z .refused) e; fed = refl; sums = (refl, refl, refl); stand = ap (λ (z : FreshAnswer). z .stand) e; stores = refl };
       answered = λ z. absurd (nz (ap (λ (z : FreshAnswer). z .refused) e ∙ z));
     }
 
-pub batch-answered : (minimum most : ℕ) (rooms : Rooms) (m m' : Stores) (bars : List Bar) (r : BatchAnswer) (a : FreshAnswer) → a ≡ freshOf minimum most rooms → a .refused ≡ 0
-    → BatchFed (a .stand) m bars r m' → BatchIs minimum most rooms m bars r m'
-batch-answered minimum most rooms m m' bars r a e z f =
+pub batch-answered : (minimum most : ℕ) (m m' : Stores) (bars : List Bar) (r : BatchAnswer) (a : FreshAnswer) → a ≡ freshOf minimum most m → a .refused ≡ 0
+    → BatchFed (a .stand) m bars r m' → BatchIs minimum most m bars r m'
+batch-answered minimum most m m' bars r a e z f =
     record {
       refused = λ nz. absurd (nz (ap (λ (x : FreshAnswer). x .refused) (sym e) ∙ z));
       answered = λ h. subst (λ (x : FreshAnswer). BatchFed (x .stand) m bars r m') e f;
@@ -333,18 +317,16 @@ count-is s =
     ∙ ap (λ (j : ℕ). min j (length (s .prices))) (zip-min barOf (s .times) (s .ids))
 
 -- what the loop asks
-pub can-batch : (minimum most : ℕ) (rooms : Rooms) (m : Stores) (bars : RawStore) (n : ℕ) (a : FreshAnswer) → a ≡ freshOf minimum most rooms → a .refused ≡ 0
-    → storesSized (a .stand) m ≡ true → n ≡ min (min (length (bars .times)) (length (bars .ids))) (length (bars .prices)) → CanBatch (a .stand) m bars n
-can-batch minimum most rooms m bars n a e z t c =
+pub can-batch : (minimum most : ℕ) (m : Stores) (bars : RawStore) (n : ℕ) (a : FreshAnswer) → a ≡ freshOf minimum most m → a .refused ≡ 0
+    → n ≡ min (min (length (bars .times)) (length (bars .ids))) (length (bars .prices)) → CanBatch (a .stand) m bars n
+can-batch minimum most m bars n a e z c =
     record {
       begun =
           record {
             minimum = minimum;
             most = most;
-            rooms = rooms;
             answered = ap (λ (x : FreshAnswer). x .refused) (sym e) ∙ z;
             stand = ap (λ (x : FreshAnswer). x .stand) (sym e);
-            stores = t;
           };
       room = record { times = omega arith; ids = omega arith; prices = omega arith };
       count = count-is bars ∙ sym c;

@@ -7,9 +7,7 @@ use mathlib.Core.List.{List}
 use lib.ListN.{length}
 use Rattle.bars.specs.declared.Bar.{Bar}
 use Rattle.stores.specs.Stores.{RawStore, rawBars}
-use Rattle.strokes.specs.declared.Rooms.{Rooms}
 use Rattle.strokes.specs.declared.Stand.{Stand}
-use Rattle.strokes.specs.StateRead.{storesSized}
 use Rattle.strokes.specs.Lent.{Stores}
 use Rattle.sound.specs.declared.fresh_stand.FreshAnswer.{FreshAnswer}
 use Rattle.sound.specs.FreshStand.{freshOf}
@@ -23,7 +21,7 @@ use Rattle.batch.specs.Code.BatchSteps.{NewestAsked, CanBatch, NextIs, a
 use Rattle.batch.proofs.BatchFollows.{begun-asks}
 use Rattle.writing.proofs.SameLengths.{SameLengths}
 use Rattle.feed.proofs.PortStays.{calls-lengths}
-use Rattle.batch.proofs.BatchLoop.{Onward, onward-end, newest-refused, newest-sound, first-refused, none-fed, batch-answered, count-is, can-batch}
+use Rattle.batch.proofs.BatchLoop.{Onward, onward-end, newest-refused, newest-sound, can-batch}
 
 -- ---- a bar, where only the newest raw bar is in doubt
 
@@ -73,21 +71,6 @@ loop-done can o h = onward-end can o (λ q. omega arith)
 
 -- ---- the call
 
-module _ (minimum most : ℕ) (rooms : Rooms) (m : Stores) (bars : RawStore) (a : FreshAnswer) (k n : ℕ) (e : a ≡ freshOf minimum most rooms) (z : a .refused ≡ 0)
-    (ek : k ≡ min (length (bars .times)) (length (bars .ids))) (en : n ≡ min k (length (bars .prices))) where
-  count : n ≡ min (min (length (bars .times)) (length (bars .ids))) (length (bars .prices))
-  count = en ∙ ap (λ (j : ℕ). min j (length (bars .prices))) ek
-
-  long : length (rawBars bars) ≡ n
-  long = count-is bars ∙ sym count
-
-  pub call-none : n ≡ 0 → BatchIs minimum most rooms m (rawBars bars) (record { stand = a .stand; fed = 0; failed = 0; made = 0; broken = 0; shed = 0 }) m
-  call-none h = batch-answered minimum most rooms m m (rawBars bars) _ a e z (none-fed (a .stand) m (rawBars bars) (long ∙ h))
-
-  pub call-can : (t : Bool) → t ≡ storesSized (a .stand) m → t ≡ true → CanBatch (a .stand) m bars n
-  call-can t f h = can-batch minimum most rooms m bars n a e z (sym f ∙ h) count
-
-  pub call-unsized : (t : Bool) → (n ≡ 0 → ⊥) → t ≡ storesSized (a .stand) m → t ≡ false
-      → BatchIs minimum most rooms m (rawBars bars) (record { stand = a .stand; fed = 0; failed = 4; made = 0; broken = 0; shed = 0 }) m
-  call-unsized t nz f h =
-      batch-answered minimum most rooms m m (rawBars bars) _ a e z (first-refused (a .stand) m (rawBars bars) (sym f ∙ h) (λ q. nz (sym long ∙ q)))
+pub call-can : (minimum most : ℕ) (m : Stores) (bars : RawStore) (a : FreshAnswer) (k n : ℕ) → a ≡ freshOf minimum most m → a .refused ≡ 0
+    → k ≡ min (length (bars .times)) (length (bars .ids)) → n ≡ min k (length (bars .prices)) → CanBatch (a .stand) m bars n
+call-can minimum most m bars a k n e z ek en = can-batch minimum most m bars n a e z (en ∙ ap (λ (j : ℕ). min j (length (bars .prices))) ek)

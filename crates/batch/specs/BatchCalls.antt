@@ -6,7 +6,6 @@ use mathlib.Core.List.{List, _∷_}
 use lib.ListN.{length, take, drop}
 use Rattle.bars.specs.declared.Bar.{Bar}
 use Rattle.machine.specs.Feed.{Events}
-use Rattle.strokes.specs.declared.Rooms.{Rooms}
 use Rattle.strokes.specs.declared.Stand.{Stand}
 use Rattle.strokes.specs.Lent.{Stores}
 use Rattle.sound.specs.FreshStand.{freshOf}
@@ -38,18 +37,17 @@ pub record BatchFed (s : Stand) (m : Stores) (bars : List Bar) (r : BatchAnswer)
   pub number : (b : Bar) (l : List Bar) → drop (r .fed) bars ≡ b ∷ l → r .failed ≡ failedBy (r .stand) m' b
 
 -- the batch call with stores m answers r and leaves the stores m'
-pub record BatchIs (minimum most : ℕ) (rooms : Rooms) (m : Stores) (bars : List Bar) (r : BatchAnswer) (m' : Stores) : Type 0 where
-  pub refused : ((freshOf minimum most rooms) .refused ≡ 0 → ⊥) → BatchRefused ((freshOf minimum most rooms) .refused) ((freshOf minimum most rooms) .stand) m r m'
-  pub answered : (freshOf minimum most rooms) .refused ≡ 0 → BatchFed ((freshOf minimum most rooms) .stand) m bars r m'
+pub record BatchIs (minimum most : ℕ) (m : Stores) (bars : List Bar) (r : BatchAnswer) (m' : Stores) : Type 0 where
+  pub refused : ((freshOf minimum most m) .refused ≡ 0 → ⊥) → BatchRefused ((freshOf minimum most m) .refused) ((freshOf minimum most m) .stand) m r m'
+  pub answered : (freshOf minimum most m) .refused ≡ 0 → BatchFed ((freshOf minimum most m) .stand) m bars r m'
 
 -- the list of feed calls that it is: the claims of PortClaims are claims on it
-unfoldable pub callsOf : (minimum most : ℕ) (rooms : Rooms) {m m' : Stores} {bars : List Bar} {r : BatchAnswer}
-    → BatchFed ((freshOf minimum most rooms) .stand) m bars r m' → FreshCalls
-callsOf minimum most rooms {m = m} {m' = m'} {bars = bars} {r = r} f =
+unfoldable pub callsOf : (minimum most : ℕ) {m m' : Stores} {bars : List Bar} {r : BatchAnswer}
+    → BatchFed ((freshOf minimum most m) .stand) m bars r m' → FreshCalls
+callsOf minimum most {m = m} {m' = m'} {bars = bars} {r = r} f =
     record {
       minimum = minimum;
       most = most;
-      rooms = rooms;
       lent = m;
       bars = take (r .fed) bars;
       sums = sumsOf r;

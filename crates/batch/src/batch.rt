@@ -12,7 +12,6 @@ ghost use Rattle.stores.specs.Lent.{rawHeld, rawBefore};
 use bars::Bar;
 use feed::FeedAnswer;
 use feed::feed_sound;
-use strokes::Rooms;
 use strokes::Stand;
 
 // What the batch call answers: the stand after the last bar that was accepted, how many bars were
@@ -242,13 +241,12 @@ fn fewer(a: usize, b: usize) -> usize
     b
 }
 
-// A fresh analyzer that is fed the bars in the columns bt, bi and bp, as many as the shortest of
-// these has, up to the first that is refused. Of question 4 it asks the lengths of the stores once,
-// and then for each bar the clause on the newest raw bar: the other clauses hold.
+// A fresh analyzer for the lent stores that is fed the bars in the columns bt, bi and bp, as many as
+// the shortest of these has, up to the first that is refused. Of question 4 it asks for each bar the
+// clause on the newest raw bar: the other clauses hold.
 pub fn feed_all(
     minimum: usize,
     most: usize,
-    rooms: Rooms,
     rt: &mut [i64],
     ri: &mut [i32],
     rp: &mut [[f64; 6]],
@@ -268,9 +266,27 @@ pub fn feed_all(
     bi: &[i32],
     bp: &[[f64; 6]],
 ) -> BatchAnswer
-    ensures { λ r. ⌜ BatchIs minimum most rooms (before rt ri rp ut ui up uc ue st si sp sc se fs fp) (rawBars (rawBefore bt bi bp)) r (after rt ri rp ut ui up uc ue st si sp sc se fs fp) ⌝ }
+    ensures { λ r. ⌜ BatchIs minimum most (before rt ri rp ut ui up uc ue st si sp sc se fs fp) (rawBars (rawBefore bt bi bp)) r (after rt ri rp ut ui up uc ue st si sp sc se fs fp) ⌝ }
 {
-    let a = sound::fresh(minimum, most, rooms);
+    let a = sound::fresh(
+        minimum,
+        most,
+        rt,
+        ri,
+        rp,
+        ut,
+        ui,
+        up,
+        uc,
+        ue,
+        st,
+        si,
+        sp,
+        sc,
+        se,
+        fs,
+        fp,
+    );
     let stand = a.stand;
     let failed = a.refused;
     if failed != 0 {
@@ -284,17 +300,7 @@ pub fn feed_all(
         };
     }
     let n = fewer(fewer(bt.len(), bi.len()), bp.len());
-    if n == 0 {
-        return BatchAnswer {
-            stand,
-            fed: 0,
-            failed: 0,
-            made: 0,
-            broken: 0,
-            shed: 0,
-        };
-    }
-    if sound::stores_sized(
+    feed_from(
         stand,
         rt,
         ri,
@@ -311,36 +317,9 @@ pub fn feed_all(
         se,
         fs,
         fp,
-    ) {
-        return feed_from(
-            stand,
-            rt,
-            ri,
-            rp,
-            ut,
-            ui,
-            up,
-            uc,
-            ue,
-            st,
-            si,
-            sp,
-            sc,
-            se,
-            fs,
-            fp,
-            bt,
-            bi,
-            bp,
-            n,
-        );
-    }
-    BatchAnswer {
-        stand,
-        fed: 0,
-        failed: 4,
-        made: 0,
-        broken: 0,
-        shed: 0,
-    }
+        bt,
+        bi,
+        bp,
+        n,
+    )
 }

@@ -1,16 +1,14 @@
 -- What the steps of the batch call may count on, and what they say. Definitions only.
 use Prim.Native.Nat.{ℕ, zero, suc, _+_, _-_, _≤_, _<_}
 use mathlib.Core.Path.{_≡_}
-use mathlib.Core.Bool.{true}
 use lib.ListN.{length}
 use lib.Dec.{T}
 use Rattle.bars.specs.declared.Bar.{Bar}
 use Rattle.stores.specs.Stores.{RawStore, rawBars}
 use Rattle.stores.specs.Code.StoreRows.{RoomRaw}
 use Rattle.machine.specs.Soundness.{newestLast}
-use Rattle.strokes.specs.declared.Rooms.{Rooms}
 use Rattle.strokes.specs.declared.Stand.{Stand}
-use Rattle.strokes.specs.StateRead.{stateOf, storesSized, sized}
+use Rattle.strokes.specs.StateRead.{stateOf, sized}
 use Rattle.strokes.specs.Lent.{Stores}
 use Rattle.sound.specs.FreshStand.{freshOf}
 use Rattle.question4.specs.Question4.{question4}
@@ -22,14 +20,12 @@ pub record NewestAsked (s : Stand) (m : Stores) : Type 0 where
   pub sizes : T (sized s m)
   pub question : question4 s m ≡ newestLast (stateOf s m)
 
--- a fresh analyzer that was not refused, with stores of the recorded lengths
+-- a fresh analyzer that was not refused, for these stores
 pub record Begun (s : Stand) (m : Stores) : Type 0 where
   pub minimum : ℕ
   pub most : ℕ
-  pub rooms : Rooms
-  pub answered : (freshOf minimum most rooms) .refused ≡ 0
-  pub stand : (freshOf minimum most rooms) .stand ≡ s
-  pub stores : storesSized s m ≡ true
+  pub answered : (freshOf minimum most m) .refused ≡ 0
+  pub stand : (freshOf minimum most m) .stand ≡ s
 
 -- .. and n bars to feed
 pub record CanBatch (s : Stand) (m : Stores) (bars : RawStore) (n : ℕ) : Type 0 where
