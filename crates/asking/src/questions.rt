@@ -192,7 +192,7 @@ fn try_bar(
     }
 }
 
-// Questions 5 to 12, of a stand that is sound: question 4 has passed.
+// Questions 5 to 12, of a stand that is sound: question 4 has passed. For the feed above, which proves just that before it calls; no other caller needs it.
 pub fn ask(
     stand: Stand,
     rt: &[i64],

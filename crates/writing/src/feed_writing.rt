@@ -9,7 +9,8 @@ use asking::Plan;
 use bars::Bar;
 use strokes::Stand;
 
-// The machine's step on the stores. The raw store is written last, since the elements of a replaced bar are read from it as it was.
+// The machine's step on the stores. The raw store is written last, since the elements of a replaced bar are read from it as it was. For the feed above: a caller proves that the stand is sound, that
+// questions 5 to 12 have passed, and that `later` and `plan` are what was asked.
 pub fn write(
     stand: Stand,
     rt: &mut [i64],
