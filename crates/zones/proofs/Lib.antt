@@ -8,6 +8,7 @@ pub mod StrokesReadLaws
 pub mod RunReads
 pub mod Items
 pub mod FakeReads
+pub mod ZoneStates
 pub mod ZoneWalks
 pub mod NamedRunLaws
 pub mod ListedZoneLaws

@@ -4,8 +4,10 @@ use Prim.Native.Nat.{ℕ, zero, suc, _+_, _-_, _*_, _/_, _≤_, _<_}
 use native.Mathlib.Omega.{arith}
 use mathlib.Core.Path.{_≡_, ap, sym, _∙_, subst}
 use mathlib.Core.Bool.{Bool, false, not, _&&_}
-use mathlib.Core.List.{List, [], _∷_, foldl}
-use lib.ListN.{take, getD}
+use native.Mathlib.Numerals.{add-one}
+use mathlib.Core.List.{List, [], _∷_, _++_, foldl}
+use lib.ListN.{length, take, getD, set}
+use lib.Seq.{take-suc-set}
 use lib.Dec.{leb, leb→le, nleb→lt, le→leb, not-T}
 use Rattle.strokes.specs.declared.Stand.{Stand}
 use Rattle.machine.specs.declared.Mark.{Mark}
@@ -19,6 +21,7 @@ use Rattle.zones.specs.BisUpDown.{isBisUp, isBisDown}
 use Rattle.zones.specs.Code.GrowingRun.{begun, moreOf, runOf, upOf, downOf}
 use Rattle.zones.specs.Code.StrokesRead.{strokePlace, fractalNumber, strokeEnd, summaryFrom, summaryAt, itemsFrom, readRun, StrokeStands, RunStands}
 use Rattle.named.specs.Code.NamedRows.{markAt, middleAt}
+use Rattle.zones.proofs.Items.{items-more}
 use Rattle.zones.proofs.RunFolds.{up-grown, down-grown}
 use Rattle.zones.proofs.StrokesReadLaws.{run-first}
 use borrow.Author.Tests.{lt-leb, le-leb}
@@ -62,6 +65,21 @@ module _ (s : Stand) (f : FractalStore) (first count : ℕ) where
 
   pub down-walked : (w : GrowingRun) (r : Bool) → 1 ≤ count → w ≡ runOf (summaryAt s f first) (readRun s f (first + 1) (count - 1)) → r ≡ downOf w → r ≡ isBisDown (readRun s f first count)
   down-walked w r h e q = q ∙ ap downOf e ∙ down-grown (summaryAt s f first) (readRun s f (first + 1) (count - 1)) ∙ sym (ap isBisDown (run-first s f first count h))
+
+-- ---- a run that is read into an array, stroke by stroke
+
+module _ (s : Stand) (f : FractalStore) (first : ℕ) where
+  pub reads-more : (run run' : List Summary) (j : ℕ) (x : Summary) → j < length run → x ≡ summaryAt s f (first + j) → run' ≡ set run j x → take j run ≡ readRun s f first j → take (j + 1) run' ≡ readRun s f first (j + 1)
+  unfolding readRun
+  reads-more run run' j x h e q k =
+      ap (take (j + 1)) q
+      ∙ ap (λ (n : ℕ). take n (set run j x)) (add-one j)
+      ∙ take-suc-set run j x h
+      ∙ (λ i. k i ++ e i ∷ [])
+      ∙ sym (items-more (summaryAt s f) first j)
+
+  pub reads-end : (run : List Summary) (j count : ℕ) → j ≤ count → count ≤ j → take j run ≡ readRun s f first j → take count run ≡ readRun s f first count
+  reads-end run j count h k e = let q : j ≡ count = omega arith in ap (λ (n : ℕ). take n run) (sym q) ∙ e ∙ ap (readRun s f first) q
 
 -- ---- whether three columns have n places
 

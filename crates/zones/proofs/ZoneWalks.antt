@@ -5,67 +5,70 @@ use native.Mathlib.Omega.{arith}
 use native.Mathlib.Numerals.{add-one}
 use mathlib.Core.Path.{_≡_, refl, ap, sym, _∙_, subst}
 use mathlib.Core.Bool.{Bool, true, false}
-use mathlib.Core.List.{List, [], _∷_, _++_, map, map-append}
+use mathlib.Core.List.{List, [], _∷_, _++_, map, map-append, foldl}
 use lib.ListN.{length, take, drop, getD, set, length-append, length-map, length-drop, length-set}
-use lib.Seq.{drop-cons, drop-drop, take-suc, take-all, length-take-le}
+use lib.Seq.{drop-cons, drop-drop, take-suc, take-all, length-take-le, set-set}
+use lib.Dec.{eqb}
 use lib.IntN.{ℤ}
 use lib.Ieee.{Float}
-use Rattle.strokes.specs.declared.Stand.{Stand}
-use Rattle.strokes.specs.Lent.{FractalStore}
+use borrow.Author.Tests.{ne-eqb}
 use Rattle.strokes.specs.FractalRows.{pasted}
 use Rattle.zones.specs.declared.Summary.{Summary}
 use Rattle.zones.specs.declared.zone_building.GrowingZone.{GrowingZone}
-use Rattle.zones.specs.declared.zone_writing.Building.{Building}
+use Rattle.zones.specs.declared.lent_zone.Building.{Building}
 use Rattle.zones.specs.Zones.{Zone, opens, placed, grow, zones, zoneOf, getZsSeq}
 use Rattle.zones.specs.Code.GrowingZone.{joinedOf, grown, opensOf, zzOf, validOf, zoneFrom}
-use Rattle.zones.specs.Code.StrokesRead.{summaryAt, readRun, itemsFrom}
 use Rattle.zones.specs.FakeRows.{directionCode}
 use Rattle.zones.specs.ZoneRows.{flag, zoneTimes, zonePrices, zoneNumbers, ZoneColumns, zoneColumns, putZones, strokeTimes, strokePrices, strokeCode, StrokeColumns, strokeColumns, putStrokes}
-use Rattle.zones.specs.Code.ZoneSteps.{RoomZones, RoomStrokes, buildingOf, nextIf, nextOf, setZone, setIf}
+use Rattle.zones.specs.Code.ZoneSteps.{RoomZones, RoomStrokes, noZone, nextIf, nextOf, statesOf, setZone}
 use Rattle.zones.proofs.ZoneFolds.{zone-grown, opens-grown, joined-grown}
-use Rattle.zones.proofs.StrokesReadLaws.{run-first, run-step, run-none}
-use Rattle.zones.proofs.RunReads.{read-none}
-use Rattle.zones.proofs.Items.{put-none, put-more, row-turn}
+use Rattle.zones.proofs.Items.{put-none, put-more}
 
 -- ---- the walk
 
--- after j strokes of the run whose zones are Z, where `rest` is still to come
-pub record Walking (Z : List (List Summary)) (rest : List Summary) (b : Building) (j : ℕ) : Type 0 where
+-- the zone under construction, of a run whose zones are Z, where `rest` is still to come
+record Walking (Z : List (List Summary)) (rest : List Summary) (b : Building) : Type 0 where
   pub head : Summary
   pub tail : List Summary
   pub zone : b .zone ≡ grown head tail
   pub size : b .size ≡ length (head ∷ tail)
   pub left : drop (b .done) Z ≡ grow (head ∷ tail) rest
-  pub few : b .size + b .done ≤ j
 
-walk-first : (a : Summary) (bs : List Summary) → Walking (zones (a ∷ bs)) bs (buildingOf a) 1
-unfolding zones buildingOf grown
-walk-first a bs = record { head = a; tail = []; zone = refl; size = refl; left = refl; few = omega arith }
+walk-first : (a : Summary) (bs : List Summary) → Walking (zones (a ∷ bs)) bs (nextOf noZone a)
+unfolding zones nextOf nextIf noZone grown
+walk-first a bs = record { head = a; tail = []; zone = refl; size = refl; left = refl }
 
-walk-if : (t : Bool) (Z : List (List Summary)) (s : Summary) (bs : List Summary) (b : Building) (j : ℕ) (head : Summary) (tail : List Summary)
+walk-if : (t : Bool) (Z : List (List Summary)) (s : Summary) (bs : List Summary) (b : Building) (head : Summary) (tail : List Summary)
     → b .zone ≡ grown head tail
     → b .size ≡ length (head ∷ tail)
     → drop (b .done) Z ≡ placed t (head ∷ tail) s (λ z. grow z bs)
-    → b .size + b .done ≤ j
-    → Walking Z bs (nextIf t b s) (j + 1)
+    → Walking Z bs (nextIf false t b s)
 unfolding placed nextIf grown
-walk-if true Z s bs b j head tail z n l f =
-    record { head = s; tail = []; zone = refl; size = refl; left = sym (drop-drop 1 (b .done) Z) ∙ ap (drop 1) l; few = omega arith }
-walk-if false Z s bs b j head tail z n l f =
+walk-if true Z s bs b head tail z n l =
+    record { head = s; tail = []; zone = refl; size = refl; left = sym (drop-drop 1 (b .done) Z) ∙ ap (drop 1) l }
+walk-if false Z s bs b head tail z n l =
     record {
       head = head;
       tail = tail ++ s ∷ [];
       zone = ap (λ (w : GrowingZone). joinedOf w s) z ∙ joined-grown head tail s;
       size = omega (arith, length-append tail (s ∷ []));
       left = l;
-      few = omega arith;
     }
 
-walk-turn : (Z : List (List Summary)) (s : Summary) (bs : List Summary) (b : Building) (j : ℕ) → Walking Z (s ∷ bs) b j → Walking Z bs (nextOf b s) (j + 1)
-unfolding nextOf grow
-walk-turn Z s bs b j w =
-    let e : opensOf (b .zone) s ≡ opens (w .head ∷ w .tail) s = ap (λ (x : GrowingZone). opensOf x s) (w .zone) ∙ opens-grown (w .head) (w .tail) s in
-    walk-if (opensOf (b .zone) s) Z s bs b j (w .head) (w .tail) (w .zone) (w .size) (w .left ∙ ap (λ (t : Bool). placed t (w .head ∷ w .tail) s (λ z. grow z bs)) (sym e)) (w .few)
+-- where a zone is there, the next step is by whether the stroke opens another
+module _ (Z : List (List Summary)) (s : Summary) (bs : List Summary) (b : Building) (w : Walking Z (s ∷ bs) b) where
+  steps : nextOf b s ≡ nextIf false (opensOf (b .zone) s) b s
+  unfolding nextOf
+  steps = let n = w .size in ap (λ (e : Bool). nextIf e (opensOf (b .zone) s) b s) (ne-eqb (b .size) 0 (λ z. omega arith))
+
+  here : drop (b .done) Z ≡ placed (opensOf (b .zone) s) (w .head ∷ w .tail) s (λ z. grow z bs)
+  unfolding grow
+  here =
+      let e : opensOf (b .zone) s ≡ opens (w .head ∷ w .tail) s = ap (λ (x : GrowingZone). opensOf x s) (w .zone) ∙ opens-grown (w .head) (w .tail) s in
+      w .left ∙ ap (λ (t : Bool). placed t (w .head ∷ w .tail) s (λ z. grow z bs)) (sym e)
+
+  walk-turn : Walking Z bs (nextOf b s)
+  walk-turn = subst (Walking Z bs) (sym steps) (walk-if (opensOf (b .zone) s) Z s bs b (w .head) (w .tail) (w .zone) (w .size) here)
 
 placed-some : (t : Bool) (z : List Summary) (s : Summary) (g : List Summary → List (List Summary)) → ((y : List Summary) → 1 ≤ length (g y)) → 1 ≤ length (placed t z s g)
 unfolding placed
@@ -77,68 +80,65 @@ unfolding grow
 grow-some [] z = omega arith
 grow-some (b ∷ bs) z = placed-some (opens z b) z b (λ y. grow y bs) (grow-some bs)
 
-pub walk-inside : (Z : List (List Summary)) (rest : List Summary) (b : Building) (j : ℕ) → Walking Z rest b j → b .done < length Z
-walk-inside Z rest b j w = omega (arith, length-drop (b .done) Z, ap length (w .left), grow-some rest (w .head ∷ w .tail))
+walk-inside : (Z : List (List Summary)) (rest : List Summary) (b : Building) → Walking Z rest b → b .done < length Z
+walk-inside Z rest b w = omega (arith, length-drop (b .done) Z, ap length (w .left), grow-some rest (w .head ∷ w .tail))
 
--- ---- the walk over a run that is read
+last-left : (Z : List (List Summary)) (b : Building) (w : Walking Z [] b) → drop (b .done) Z ≡ (w .head ∷ w .tail) ∷ []
+unfolding grow
+last-left Z b w = w .left
 
-module _ (s : Stand) (f : FractalStore) (first count : ℕ) where
-  -- the zones of the run, by the strokes of each
-  abbrev pub zonesHere : List (List Summary)
-  zonesHere = zones (readRun s f first count)
+walk-ends : (Z : List (List Summary)) (b : Building) → Walking Z [] b → b .done + 1 ≡ length Z
+walk-ends Z b w = omega (arith, length-drop (b .done) Z, ap length (last-left Z b w), walk-inside Z [] b w)
 
-  pub walk-begins : (a : Summary) (b : Building) → 1 ≤ count → a ≡ summaryAt s f first → b ≡ buildingOf a → Walking zonesHere (readRun s f (first + 1) (count - 1)) b 1
-  walk-begins a b h e q =
-      subst (λ (x : Building). Walking zonesHere (readRun s f (first + 1) (count - 1)) x 1) (sym (q ∙ ap buildingOf e))
-      (subst (λ (x : List Summary). Walking (zones x) (readRun s f (first + 1) (count - 1)) (buildingOf (summaryAt s f first)) 1) (sym (run-first s f first count h))
-      (walk-first (summaryAt s f first) (readRun s f (first + 1) (count - 1))))
+-- ---- how many zones are done
 
-  module _ (j : ℕ) (x : Summary) (b b' : Building) (h : j < count) (e : x ≡ summaryAt s f (first + j)) (q : b' ≡ nextOf b x) (w : Walking zonesHere (readRun s f (first + j) (count - j)) b j) where
-    opened : Walking zonesHere (x ∷ readRun s f (first + (j + 1)) (count - (j + 1))) b j
-    opened =
-        subst (λ (l : List Summary). Walking zonesHere l b j) (run-step s f first count j h ∙ ap (λ (y : Summary). y ∷ readRun s f (first + (j + 1)) (count - (j + 1))) (sym e)) w
+last-done : (Z : List (List Summary)) (rest : List Summary) (b x : Building) → Walking Z rest b → (getD (b ∷ statesOf b rest) (length rest) x) .done + 1 ≡ length Z
+unfolding statesOf
+last-done Z [] b x w = walk-ends Z b w
+last-done Z (s ∷ bs) b x w = last-done Z bs (nextOf b s) x (walk-turn Z s bs b w)
 
-    pub walk-next : Walking zonesHere (readRun s f (first + (j + 1)) (count - (j + 1))) b' (j + 1)
-    walk-next = subst (λ (y : Building). Walking zonesHere (readRun s f (first + (j + 1)) (count - (j + 1))) y (j + 1)) (sym q) (walk-turn zonesHere x (readRun s f (first + (j + 1)) (count - (j + 1))) b j opened)
+-- after the last stroke all but the last zone are done
+pub zones-done : (l : List Summary) (n : ℕ) (x : Building) → length l ≡ suc n → (getD (statesOf noZone l) n x) .done + 1 ≡ length (zones l)
+unfolding statesOf
+zones-done [] n x e = let w : ⊥ = omega arith in absurd w
+zones-done (a ∷ bs) n x e =
+    let q : n ≡ length bs = omega arith in
+    ap (λ (k : ℕ). (getD (statesOf noZone (a ∷ bs)) k x) .done + 1) q ∙ last-done (zones (a ∷ bs)) bs (nextOf noZone a) x (walk-first a bs)
 
-  walk-over : (j : ℕ) (b : Building) → count ≤ j → Walking zonesHere (readRun s f (first + j) (count - j)) b j → Walking zonesHere [] b j
-  walk-over j b h w = subst (λ (l : List Summary). Walking zonesHere l b j) (run-none s f first count j h) w
+each-inside : (Z : List (List Summary)) (rest : List Summary) (b x : Building) (i : ℕ) → Walking Z rest b → i ≤ length rest → (getD (b ∷ statesOf b rest) i x) .done < length Z
+unfolding statesOf
+each-inside Z rest b x zero w h = walk-inside Z rest b w
+each-inside Z [] b x (suc i) w h = let v : ⊥ = omega arith in absurd v
+each-inside Z (s ∷ bs) b x (suc i) w h = each-inside Z bs (nextOf b s) x i (walk-turn Z s bs b w) (omega arith)
 
-  last-left : (b : Building) (j : ℕ) (w : Walking zonesHere [] b j) → drop (b .done) zonesHere ≡ (w .head ∷ w .tail) ∷ []
-  unfolding grow
-  last-left b j w = w .left
+pub states-inside : (l : List Summary) (i : ℕ) (x : Building) → i < length l → (getD (statesOf noZone l) i x) .done < length (zones l)
+unfolding statesOf
+states-inside [] i x h = let w : ⊥ = omega arith in absurd w
+states-inside (a ∷ bs) i x h = each-inside (zones (a ∷ bs)) bs (nextOf noZone a) x i (walk-first a bs) (omega arith)
 
-  pub walk-ends : (j : ℕ) (b : Building) → count ≤ j → Walking zonesHere (readRun s f (first + j) (count - j)) b j → b .done + 1 ≡ length zonesHere
-  walk-ends j b h w =
-      let v = walk-over j b h w in
-      omega (arith, length-drop (b .done) zonesHere, ap length (last-left b j v), walk-inside zonesHere [] b j v)
+-- ---- writing
 
-  pub no-zones : count ≡ 0 → 0 ≡ length zonesHere
-  unfolding zones
-  no-zones e = sym (ap (λ (l : List Summary). length (zones l)) (read-none s f first count e))
+-- a row that is written again
+set-again : (w : ZoneColumns) (b : Building) (z : GrowingZone) (n : ℕ) → setZone (setZone w b) (record { zone = z; size = n; done = b .done }) ≡ setZone w (record { zone = z; size = n; done = b .done })
+unfolding setZone
+set-again w b z n =
+    λ i.
+    zoneColumns (set-set (w .times) (b .done) (b .zone .first .began ∷ b .zone .last .ended ∷ []) (z .first .began ∷ z .last .ended ∷ []) i)
+    (set-set (w .prices) (b .done) (b .zone .zg ∷ b .zone .zd ∷ zzOf (b .zone) ∷ b .zone .gg ∷ b .zone .dd ∷ []) (z .zg ∷ z .zd ∷ zzOf z ∷ z .gg ∷ z .dd ∷ []) i)
+    (set-set (w .numbers) (b .done) (directionCode (b .zone .first .direction) ∷ directionCode (b .zone .last .direction) ∷ flag (validOf (b .zone)) ∷ b .size ∷ [])
+    (directionCode (z .first .direction) ∷ directionCode (z .last .direction) ∷ flag (validOf z) ∷ n ∷ []) i)
 
-  -- ---- writing
-
+module _ (Z : List (List Summary)) where
   -- the columns d after the first k zones
-  pub record Zoned (d w : ZoneColumns) (k : ℕ) : Type 0 where
-    pub columns : w ≡ putZones d (map zoneOf (take k zonesHere))
-    pub times : length (w .times) ≡ length (d .times)
-    pub prices : length (w .prices) ≡ length (d .prices)
-    pub numbers : length (w .numbers) ≡ length (d .numbers)
+  abbrev Zoned : ZoneColumns → ZoneColumns → ℕ → Type 0
+  Zoned d w k = w ≡ putZones d (map zoneOf (take k Z))
 
-  pub zoned-none : (d : ZoneColumns) (k : ℕ) → k ≡ 0 → Zoned d d k
-  unfolding putZones
-  zoned-none d k e =
-      subst (Zoned d d) (sym e)
-      (record { columns = λ i. zoneColumns (put-none (d .times) i) (put-none (d .prices) i) (put-none (d .numbers) i); times = refl; prices = refl; numbers = refl })
-
-  row-set : {B : Type 0} (row : Zone → B) (d l : List B) (k : ℕ) (v : B) (x : List Summary) (ys : List (List Summary)) → l ≡ pasted d 0 (map row (map zoneOf (take k zonesHere)))
+  row-set : {B : Type 0} (row : Zone → B) (d l : List B) (k : ℕ) (v : B) (x : List Summary) (ys : List (List Summary)) → l ≡ pasted d 0 (map row (map zoneOf (take k Z)))
       → k < length d
-      → drop k zonesHere ≡ x ∷ ys
+      → drop k Z ≡ x ∷ ys
       → v ≡ row (zoneOf x)
-      → set l k v ≡ pasted d 0 (map row (map zoneOf (take (k + 1) zonesHere)))
+      → set l k v ≡ pasted d 0 (map row (map zoneOf (take (k + 1) Z)))
   row-set row d l k v x ys e h q p =
-      let Z = zonesHere in
       let r = map row (map zoneOf (take k Z)) in
       let lt : k < length Z = omega (arith, length-drop k Z, ap length q) in
       let n : length r ≡ k = length-map (map zoneOf (take k Z)) row ∙ length-map (take k Z) zoneOf ∙ length-take-le k Z (omega arith) in
@@ -153,126 +153,134 @@ module _ (s : Stand) (f : FractalStore) (first count : ℕ) where
   zone-is : (b : Building) (a : Summary) (l : List Summary) → b .zone ≡ grown a l → zoneFrom (b .zone) (a ∷ l) ≡ zoneOf (a ∷ l)
   zone-is b a l e = ap (λ (w : GrowingZone). zoneFrom w (a ∷ l)) e ∙ zone-grown a l
 
-  zoned-set : (d w : ZoneColumns) (b : Building) (a : Summary) (l : List Summary) (ys : List (List Summary)) → RoomZones d (length zonesHere)
+  zoned-set : (d w : ZoneColumns) (b : Building) (a : Summary) (l : List Summary) (ys : List (List Summary)) → RoomZones d (length Z)
       → b .zone ≡ grown a l
       → b .size ≡ length (a ∷ l)
-      → drop (b .done) zonesHere ≡ (a ∷ l) ∷ ys
+      → drop (b .done) Z ≡ (a ∷ l) ∷ ys
       → Zoned d w (b .done)
       → Zoned d (setZone w b) (b .done + 1)
   unfolding setZone putZones zoneFrom zoneTimes zonePrices zoneNumbers
   zoned-set d w b a l ys room ez es ed g =
-      let Z = zonesHere in
       let k = b .done in
       let r1 = room .times in
       let r2 = room .prices in
       let r3 = room .numbers in
       let lt : k < length Z = omega (arith, length-drop k Z, ap length ed) in
-      let c = g .columns in
       let e = zone-is b a l ez in
       let z = b .zone in
-      record {
-        columns =
-            λ i.
-            zoneColumns (row-set zoneTimes (d .times) (w .times) k (z .first .began ∷ z .last .ended ∷ []) (a ∷ l) ys (ap (λ (x : ZoneColumns). x .times) c) (omega arith) ed (ap zoneTimes e) i)
-            (row-set zonePrices (d .prices) (w .prices) k (z .zg ∷ z .zd ∷ zzOf z ∷ z .gg ∷ z .dd ∷ []) (a ∷ l) ys (ap (λ (x : ZoneColumns). x .prices) c) (omega arith) ed (ap zonePrices e) i)
-            (row-set zoneNumbers (d .numbers) (w .numbers) k (directionCode (z .first .direction) ∷ directionCode (z .last .direction) ∷ flag (validOf z) ∷ b .size ∷ []) (a ∷ l) ys (ap (λ (x : ZoneColumns). x .numbers) c) (omega arith) ed
-            (ap (λ (x : ℕ). directionCode (z .first .direction) ∷ directionCode (z .last .direction) ∷ flag (validOf z) ∷ x ∷ []) es ∙ ap zoneNumbers e) i);
-        times = length-set (w .times) k (z .first .began ∷ z .last .ended ∷ []) ∙ g .times;
-        prices = length-set (w .prices) k (z .zg ∷ z .zd ∷ zzOf z ∷ z .gg ∷ z .dd ∷ []) ∙ g .prices;
-        numbers = length-set (w .numbers) k (directionCode (z .first .direction) ∷ directionCode (z .last .direction) ∷ flag (validOf z) ∷ b .size ∷ []) ∙ g .numbers;
-      }
+      λ i.
+      zoneColumns (row-set zoneTimes (d .times) (w .times) k (z .first .began ∷ z .last .ended ∷ []) (a ∷ l) ys (ap (λ (x : ZoneColumns). x .times) g) (omega arith) ed (ap zoneTimes e) i)
+      (row-set zonePrices (d .prices) (w .prices) k (z .zg ∷ z .zd ∷ zzOf z ∷ z .gg ∷ z .dd ∷ []) (a ∷ l) ys (ap (λ (x : ZoneColumns). x .prices) g) (omega arith) ed (ap zonePrices e) i)
+      (row-set zoneNumbers (d .numbers) (w .numbers) k (directionCode (z .first .direction) ∷ directionCode (z .last .direction) ∷ flag (validOf z) ∷ b .size ∷ []) (a ∷ l) ys (ap (λ (x : ZoneColumns). x .numbers) g) (omega arith) ed
+      (ap (λ (x : ℕ). directionCode (z .first .direction) ∷ directionCode (z .last .direction) ∷ flag (validOf z) ∷ x ∷ []) es ∙ ap zoneNumbers e) i)
 
-  zoned-if : (t : Bool) (d w : ZoneColumns) (b : Building) (x : Summary) (bs : List Summary) (a : Summary) (l : List Summary) → RoomZones d (length zonesHere)
-      → b .zone ≡ grown a l
-      → b .size ≡ length (a ∷ l)
-      → drop (b .done) zonesHere ≡ placed t (a ∷ l) x (λ z. grow z bs)
-      → Zoned d w (b .done)
-      → Zoned d (setIf t w b) ((nextIf t b x) .done)
-  unfolding placed setIf nextIf
-  zoned-if true d w b x bs a l room ez es ed g = zoned-set d w b a l (grow (x ∷ []) bs) room ez es ed g
-  zoned-if false d w b x bs a l room ez es ed g = g
+  module _ (d : ZoneColumns) (room : RoomZones d (length Z)) where
+    -- the stroke s opens the next zone, or it joins, and then the row is written again
+    written-if : (t : Bool) (s : Summary) (bs : List Summary) (b : Building) (w : ZoneColumns) (a : Summary) (l : List Summary) → b .zone ≡ grown a l
+        → b .size ≡ length (a ∷ l)
+        → drop (b .done) Z ≡ placed t (a ∷ l) s (λ z. grow z bs)
+        → Zoned d w (b .done)
+        → ((b' : Building) (w' : ZoneColumns) → Walking Z bs b' → Zoned d w' (b' .done) → foldl setZone (setZone w' b') (statesOf b' bs) ≡ putZones d (map zoneOf Z))
+        → foldl setZone (setZone (setZone w b) (nextIf false t b s)) (statesOf (nextIf false t b s) bs) ≡ putZones d (map zoneOf Z)
+    unfolding placed nextIf
+    written-if true s bs b w a l ez es ed g k = k (nextIf false true b s) (setZone w b) (walk-if true Z s bs b a l ez es ed) (zoned-set d w b a l (grow (s ∷ []) bs) room ez es ed g)
+    written-if false s bs b w a l ez es ed g k =
+        ap (λ (y : ZoneColumns). foldl setZone y (statesOf (nextIf false false b s) bs)) (set-again w b (joinedOf (b .zone) s) (b .size + 1)) ∙ k (nextIf false false b s) w (walk-if false Z s bs b a l ez es ed) g
 
-  zoned-turn : (d w : ZoneColumns) (b : Building) (x : Summary) (bs : List Summary) (j : ℕ) → RoomZones d (length zonesHere) → Walking zonesHere (x ∷ bs) b j → Zoned d w (b .done)
-      → Zoned d (setIf (opensOf (b .zone) x) w b) ((nextOf b x) .done)
-  unfolding nextOf grow
-  zoned-turn d w b x bs j room k g =
-      let e : opensOf (b .zone) x ≡ opens (k .head ∷ k .tail) x = ap (λ (y : GrowingZone). opensOf y x) (k .zone) ∙ opens-grown (k .head) (k .tail) x in
-      zoned-if (opensOf (b .zone) x) d w b x bs (k .head) (k .tail) room (k .zone) (k .size) (k .left ∙ ap (λ (t : Bool). placed t (k .head ∷ k .tail) x (λ z. grow z bs)) (sym e)) g
+    written : (rest : List Summary) (b : Building) (w : ZoneColumns) → Walking Z rest b → Zoned d w (b .done) → foldl setZone (setZone w b) (statesOf b rest) ≡ putZones d (map zoneOf Z)
+    unfolding statesOf
+    written [] b w v g =
+        let z = zoned-set d w b (v .head) (v .tail) [] room (v .zone) (v .size) (last-left Z b v) g in
+        let n = walk-ends Z b v in
+        z ∙ ap (λ (y : List (List Summary)). putZones d (map zoneOf y)) (take-all (b .done + 1) Z (omega arith))
+    written (s ∷ bs) b w v g =
+        ap (λ (b' : Building). foldl setZone (setZone (setZone w b) b') (statesOf b' bs)) (steps Z s bs b v)
+        ∙ written-if (opensOf (b .zone) s) s bs b w (v .head) (v .tail) (v .zone) (v .size) (here Z s bs b v) g (λ b' w'. written bs b' w')
 
-  pub zoned-next : (j : ℕ) (x : Summary) (b b' : Building) (d w w' : ZoneColumns) → j < count → x ≡ summaryAt s f (first + j) → b' ≡ nextOf b x
-      → w' ≡ setIf (opensOf (b .zone) x) w b
-      → RoomZones d (length zonesHere)
-      → Walking zonesHere (readRun s f (first + j) (count - j)) b j
-      → Zoned d w (b .done)
-      → Zoned d w' (b' .done)
-  zoned-next j x b b' d w w' h e q p room k g =
-      subst (λ (y : Building). Zoned d w' (y .done)) (sym q)
-      (subst (λ (y : ZoneColumns). Zoned d y ((nextOf b x) .done)) (sym p) (zoned-turn d w b x (readRun s f (first + (j + 1)) (count - (j + 1))) j room (opened j x b b' h e q k) g))
+none-written : (d : ZoneColumns) → d ≡ putZones d []
+unfolding putZones
+none-written d = λ i. zoneColumns (put-none (d .times) i) (put-none (d .prices) i) (put-none (d .numbers) i)
 
-  pub zones-written : (j : ℕ) (b : Building) (d w w' : ZoneColumns) → count ≤ j → w' ≡ setZone w b → RoomZones d (length zonesHere)
-      → Walking zonesHere (readRun s f (first + j) (count - j)) b j
-      → Zoned d w (b .done)
-      → w' ≡ putZones d (getZsSeq (readRun s f first count))
-  unfolding getZsSeq
-  zones-written j b d w w' h q room k g =
-      let v = walk-over j b h k in
-      let n = walk-ends j b h k in
-      let z = zoned-set d w b (v .head) (v .tail) [] room (v .zone) (v .size) (last-left b j v) g in
-      q ∙ z .columns ∙ ap (λ (y : List (List Summary)). putZones d (map zoneOf y)) (take-all (b .done + 1) zonesHere (omega arith))
+first-written : (Z : List (List Summary)) (d : ZoneColumns) (a : Summary) → Zoned Z d d ((nextOf noZone a) .done)
+unfolding nextOf nextIf noZone
+first-written Z d a = none-written d
 
-  pub none-written : (d : ZoneColumns) → count ≡ 0 → d ≡ putZones d (getZsSeq (readRun s f first count))
-  unfolding putZones getZsSeq zones
-  none-written d e =
-      (λ i. zoneColumns (put-none (d .times) i) (put-none (d .prices) i) (put-none (d .numbers) i)) ∙ ap (λ (l : List Summary). putZones d (getZsSeq l)) (sym (read-none s f first count e))
+-- written after each stroke, the rows are those of get_zs_seq
+pub zones-written : (l : List Summary) (d : ZoneColumns) → RoomZones d (length (zones l)) → foldl setZone d (statesOf noZone l) ≡ putZones d (getZsSeq l)
+unfolding statesOf getZsSeq zones
+zones-written [] d room = none-written d
+zones-written (a ∷ bs) d room = written (zones (a ∷ bs)) d room bs (nextOf noZone a) d (walk-first a bs) (first-written (zones (a ∷ bs)) d a)
 
-  pub zone-room : (d w : ZoneColumns) (b : Building) (rest : List Summary) (j : ℕ) → RoomZones d (length zonesHere) → Walking zonesHere rest b j → Zoned d w (b .done) → RoomZones w (b .done + 1)
-  zone-room d w b rest j room k g =
-      let n = walk-inside zonesHere rest b j k in
-      let r1 = room .times in
-      let r2 = room .prices in
-      let r3 = room .numbers in
-      let a = g .times in
-      let c = g .prices in
-      let e = g .numbers in
-      record { times = omega arith; prices = omega arith; numbers = omega arith }
+-- the columns that have room for all zones have it for each state's
+pub room-inside : (d : ZoneColumns) (n k : ℕ) → RoomZones d n → k < n → RoomZones d (k + 1)
+room-inside d n k r h = let a = r .times in let b = r .prices in let c = r .numbers in record { times = omega arith; prices = omega arith; numbers = omega arith }
+
+-- each row that is written leaves the columns as long as they were
+pub record SameRoom (w d : ZoneColumns) : Type 0 where
+  pub times : length (w .times) ≡ length (d .times)
+  pub prices : length (w .prices) ≡ length (d .prices)
+  pub numbers : length (w .numbers) ≡ length (d .numbers)
+
+pub set-room : (w' w d : ZoneColumns) (b : Building) → w' ≡ setZone w b → SameRoom w d → SameRoom w' d
+unfolding setZone
+set-room w' w d b e g =
+    let z = b .zone in
+    record {
+      times = ap (λ (x : ZoneColumns). length (x .times)) e ∙ length-set (w .times) (b .done) (z .first .began ∷ z .last .ended ∷ []) ∙ g .times;
+      prices = ap (λ (x : ZoneColumns). length (x .prices)) e ∙ length-set (w .prices) (b .done) (z .zg ∷ z .zd ∷ zzOf z ∷ z .gg ∷ z .dd ∷ []) ∙ g .prices;
+      numbers = ap (λ (x : ZoneColumns). length (x .numbers)) e ∙ length-set (w .numbers) (b .done) (directionCode (z .first .direction) ∷ directionCode (z .last .direction) ∷ flag (validOf z) ∷ b .size ∷ []) ∙ g .numbers;
+    }
+
+pub same-room : (w d : ZoneColumns) (n : ℕ) → SameRoom w d → RoomZones d n → RoomZones w n
+same-room w d n g r = let a = r .times in let b = r .prices in let c = r .numbers in let x = g .times in let y = g .prices in let z = g .numbers in record { times = omega arith; prices = omega arith; numbers = omega arith }
 
 -- ---- the strokes of the run
 
--- the columns d after the first j
-pub record Listed (s : Stand) (f : FractalStore) (p : ℕ) (d w : StrokeColumns) (j : ℕ) : Type 0 where
-  pub columns : w ≡ putStrokes d (readRun s f p j)
+-- the columns d after the first j strokes of the list l
+pub record Listed (l : List Summary) (d w : StrokeColumns) (j : ℕ) : Type 0 where
+  pub columns : w ≡ putStrokes d (take j l)
   pub times : length (w .times) ≡ length (d .times)
   pub prices : length (w .prices) ≡ length (d .prices)
   pub codes : length (w .codes) ≡ length (d .codes)
 
-pub listed-none : (s : Stand) (f : FractalStore) (p : ℕ) (d : StrokeColumns) → Listed s f p d d 0
-unfolding putStrokes readRun itemsFrom
-listed-none s f p d = record { columns = λ i. strokeColumns (put-none (d .times) i) (put-none (d .prices) i) (put-none (d .codes) i); times = refl; prices = refl; codes = refl }
+pub listed-none : (l : List Summary) (d : StrokeColumns) → Listed l d d 0
+unfolding putStrokes
+listed-none l d = record { columns = λ i. strokeColumns (put-none (d .times) i) (put-none (d .prices) i) (put-none (d .codes) i); times = refl; prices = refl; codes = refl }
 
-pub listed-turn : (s : Stand) (f : FractalStore) (p j n : ℕ) (d w w' : StrokeColumns) (k : Summary) → RoomStrokes d n → j < n → Listed s f p d w j → k ≡ summaryAt s f (p + j)
-    → w' ≡ strokeColumns (set (w .times) j (strokeTimes k)) (set (w .prices) j (strokePrices k)) (set (w .codes) j (strokeCode k))
-    → Listed s f p d w' (j + 1)
-unfolding putStrokes readRun
-listed-turn s f p j n d w w' k room h g e q =
+stroke-row : {B : Type 0} (row : Summary → B) (l : List Summary) (d c : List B) (j : ℕ) (x : Summary) → c ≡ pasted d 0 (map row (take j l)) → j < length d → j < length l
+    → set c j (row (getD l j x)) ≡ pasted d 0 (map row (take (j + 1) l))
+stroke-row row l d c j x e h k =
+    let r = map row (take j l) in
+    let n : length r ≡ j = length-map (take j l) row ∙ length-take-le j l (omega arith) in
+    ap (λ y. set y j (row (getD l j x))) e
+    ∙ ap (λ (y : ℕ). set (pasted d 0 r) y (row (getD l j x))) (sym n)
+    ∙ put-more d r (row (getD l j x)) (omega arith)
+    ∙ ap (pasted d 0) (sym (ap (λ (y : ℕ). map row (take y l)) (add-one j) ∙ ap (map row) (take-suc l j x k) ∙ map-append row (take j l) (getD l j x ∷ [])))
+
+pub listed-turn : (l : List Summary) (j n : ℕ) (d w w' : StrokeColumns) (x : Summary) → RoomStrokes d n → j < n → j < length l → Listed l d w j
+    → w' ≡ strokeColumns (set (w .times) j (strokeTimes (getD l j x))) (set (w .prices) j (strokePrices (getD l j x))) (set (w .codes) j (strokeCode (getD l j x)))
+    → Listed l d w' (j + 1)
+unfolding putStrokes
+listed-turn l j n d w w' x room h k g q =
     let g1 = room .times in
     let g2 = room .prices in
     let g3 = room .codes in
     let c = g .columns in
+    let s = getD l j x in
     record {
       columns =
           q
           ∙ (λ i.
-          strokeColumns
-          (row-turn strokeTimes (summaryAt s f) (d .times) (w .times) p j (strokeTimes k) (ap (λ (x : StrokeColumns). x .times) c) (omega arith) (ap strokeTimes e) i)
-          (row-turn strokePrices (summaryAt s f) (d .prices) (w .prices) p j (strokePrices k) (ap (λ (x : StrokeColumns). x .prices) c) (omega arith) (ap strokePrices e) i)
-          (row-turn strokeCode (summaryAt s f) (d .codes) (w .codes) p j (strokeCode k) (ap (λ (x : StrokeColumns). x .codes) c) (omega arith) (ap strokeCode e) i));
-      times = ap (λ (x : StrokeColumns). length (x .times)) q ∙ length-set (w .times) j (strokeTimes k) ∙ g .times;
-      prices = ap (λ (x : StrokeColumns). length (x .prices)) q ∙ length-set (w .prices) j (strokePrices k) ∙ g .prices;
-      codes = ap (λ (x : StrokeColumns). length (x .codes)) q ∙ length-set (w .codes) j (strokeCode k) ∙ g .codes;
+          strokeColumns (stroke-row strokeTimes l (d .times) (w .times) j x (ap (λ (y : StrokeColumns). y .times) c) (omega arith) k i)
+          (stroke-row strokePrices l (d .prices) (w .prices) j x (ap (λ (y : StrokeColumns). y .prices) c) (omega arith) k i)
+          (stroke-row strokeCode l (d .codes) (w .codes) j x (ap (λ (y : StrokeColumns). y .codes) c) (omega arith) k i));
+      times = ap (λ (y : StrokeColumns). length (y .times)) q ∙ length-set (w .times) j (strokeTimes s) ∙ g .times;
+      prices = ap (λ (y : StrokeColumns). length (y .prices)) q ∙ length-set (w .prices) j (strokePrices s) ∙ g .prices;
+      codes = ap (λ (y : StrokeColumns). length (y .codes)) q ∙ length-set (w .codes) j (strokeCode s) ∙ g .codes;
     }
 
-pub listed-end : (s : Stand) (f : FractalStore) (p j n : ℕ) (d w : StrokeColumns) → j ≤ n → n ≤ j → Listed s f p d w j → w ≡ putStrokes d (readRun s f p n)
-listed-end s f p j n d w h k g = let q : j ≡ n = omega arith in g .columns ∙ ap (λ (x : ℕ). putStrokes d (readRun s f p x)) q
+pub listed-end : (l : List Summary) (j n : ℕ) (d w : StrokeColumns) → j ≤ n → n ≤ j → Listed l d w j → w ≡ putStrokes d (take n l)
+listed-end l j n d w h k g = let q : j ≡ n = omega arith in g .columns ∙ ap (λ (x : ℕ). putStrokes d (take x l)) q
 
 pub room-strokes : (d w : StrokeColumns) (n j : ℕ) → RoomStrokes d n → length (w .times) ≡ length (d .times) → length (w .prices) ≡ length (d .prices) → length (w .codes) ≡ length (d .codes) → j < n → RoomStrokes w (j + 1)
 room-strokes d w n j r a b e h = let x = r .times in let y = r .prices in let z = r .codes in record { times = omega arith; prices = omega arith; codes = omega arith }

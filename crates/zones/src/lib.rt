@@ -12,15 +12,15 @@ pub use fake_strokes::fake_count;
 pub use fake_strokes::fake_stroke;
 pub use fake_writing::FakesAnswer;
 pub use fake_writing::create_fake_bis;
-pub use lent_zone::join_all;
-pub use lent_zone::join_in_place;
+pub use lent_zone::Building;
+pub use lent_zone::no_stroke;
+pub use lent_zone::zones_of_run;
 use machine::Direction;
 pub use named_runs::RunAnswer;
 pub use named_runs::is_bis_down;
 pub use named_runs::is_bis_up;
 pub use runs_of_strokes::GrowingRun;
 pub use zone_building::GrowingZone;
-pub use zone_writing::Building;
 pub use zone_writing::ZonesAnswer;
 pub use zone_writing::get_zs_seq;
 

@@ -2,9 +2,10 @@
 ghost use mathlib.Core.Path.{_≡_};
 ghost use mathlib.Core.List.{[]};
 ghost use Prim.Native.Nat.{_+_, _-_, _*_, _/_, _<_};
-ghost use lib.ListN.{length, getD};
+ghost use lib.ListN.{length, take, getD};
 ghost use Rattle.strokes.specs.Lent.{fractalsHeld, fractalsBefore};
-ghost use Rattle.zones.specs.Code.StrokesRead.{summaryFrom, summaryAt, StrokeStands};
+ghost use Rattle.zones.specs.Code.StrokesRead.{summaryFrom, summaryAt, readRun, StrokeStands, RunStands};
+use super::lent_zone::no_stroke;
 use crate::Summary;
 use check_bi::Candle;
 use machine::Mark;
@@ -45,4 +46,27 @@ pub fn summary_at(stand: Stand, fs: &[[i64; 6]], fp: &[[f64; 18]], i: usize) -> 
     let a = middle_at(fs, fp, place);
     let z = middle_at(fs, fp, end);
     summary_from(mark, a, z)
+}
+
+// The kept strokes of a run, in order from place 0 on.
+pub fn read_run(
+    stand: Stand,
+    fs: &[[i64; 6]],
+    fp: &[[f64; 18]],
+    first: usize,
+    count: usize,
+) -> [Summary; 64]
+    requires { ⌜ RunStands stand (fractalsHeld fs fp) first count ⌝ }
+    ensures { λ r. ⌜ take count r ≡ readRun stand (fractalsBefore fs fp) first count ⌝ }
+{
+    let none = no_stroke();
+    let mut run = [none; 64];
+    let mut j: usize = 0;
+    while j < count {
+        let i = first + j;
+        let s = summary_at(stand, fs, fp, i);
+        run[j] = s;
+        j += 1;
+    }
+    run
 }

@@ -1,31 +1,25 @@
-// get_zs_seq of a run of kept strokes: its zones are counted, and written to lent columns.
+// get_zs_seq of a run of kept strokes: the run is read once, its zones are built, and zones and
+// strokes are written to lent columns.
 ghost use mathlib.Core.Path.{_≡_};
-ghost use Prim.Native.Nat.{_+_, _<_};
-ghost use lib.ListN.{length, set};
+ghost use Prim.Native.Nat.{_+_, _≤_};
+ghost use mathlib.Core.List.{foldl};
+ghost use lib.ListN.{take, set};
 ghost use Rattle.strokes.specs.Lent.{fractalsHeld, fractalsBefore, before};
 ghost use Rattle.zones.specs.ListedZones.{zonesCall, listedZones};
-ghost use Rattle.zones.specs.Zones.{zones, getZsSeq};
-ghost use Rattle.zones.specs.Code.GrowingZone.{opensOf};
 ghost use Rattle.zones.specs.Code.StrokesRead.{readRun, RunStands};
 ghost use Rattle.zones.specs.FakeRows.{directionCode};
-ghost use Rattle.zones.specs.ZoneRows.{flag, putZones, strokeTimes, strokePrices, strokeCode, strokeColumns, putStrokes};
-ghost use Rattle.zones.specs.Code.ZoneSteps.{buildingOf, nextOf, setZone, setIf, RoomZones, RoomStrokes, zonesReadIf};
+ghost use Rattle.zones.specs.ZoneRows.{flag, strokeTimes, strokePrices, strokeCode, strokeColumns, putStrokes};
+ghost use Rattle.zones.specs.Code.ZoneSteps.{zoneCount, setZone, FewZones, RoomZones, RoomBuilt, RoomStrokes, zonesReadIf};
 ghost use Rattle.zones.specs.Lent.{strokesAfter, strokesBefore, strokesHeld, zonesAfter, zonesBefore, zonesHeld};
 use super::fake_writing::direction_code;
 use super::fake_writing::fits;
+use super::lent_zone::zones_of_run;
 use super::named_runs::run_failed;
-use super::reading::summary_at;
-use crate::GrowingZone;
+use super::reading::read_run;
+use crate::Building;
 use crate::Summary;
 use machine::Direction;
 use strokes::Stand;
-
-// The zone under construction, how many strokes it has, and how many zones are done.
-pub struct Building {
-    pub zone: GrowingZone,
-    pub size: usize,
-    pub done: usize,
-}
 
 // The number of the question that was answered no, or 0, and how many zones and strokes are listed.
 pub struct ZonesAnswer {
@@ -53,64 +47,16 @@ fn flag_of(b: bool) -> usize
     0
 }
 
-fn begin(s: Summary) -> Building
-    ensures { λ r. ⌜ r ≡ buildingOf s ⌝ }
-{
-    let zone = GrowingZone::start(s);
-    Building {
-        zone: zone,
-        size: 1,
-        done: 0,
-    }
-}
-
-// With one stroke more: it joins the zone, or opens the next.
-fn next(b: Building, s: Summary) -> Building
-    requires { ⌜ b .size + b .done < 65536 ⌝ }
-    ensures { λ r. ⌜ r ≡ nextOf b s ⌝ }
-{
-    let zone = b.zone;
-    let size = b.size;
-    let done = b.done;
-    if zone.opens(s) {
-        let opened = GrowingZone::start(s);
-        return Building {
-            zone: opened,
-            size: 1,
-            done: done + 1,
-        };
-    }
-    let joined = zone.joined(s);
-    Building {
-        zone: joined,
-        size: size + 1,
-        done: done,
-    }
-}
-
-// How many zones the run has.
-pub fn count_zones(
-    stand: Stand,
-    fs: &[[i64; 6]],
-    fp: &[[f64; 18]],
-    first: usize,
-    count: usize,
-) -> usize
-    requires { ⌜ RunStands stand (fractalsHeld fs fp) first count ⌝ }
-    ensures { λ r. ⌜ r ≡ length (zones (readRun stand (fractalsBefore fs fp) first count)) ⌝ }
+// How many zones there are, of the zone that each of the run's strokes is in.
+fn zone_count(built: [Building; 64], count: usize) -> usize
+    requires { ⌜ FewZones built count ⌝ }
+    ensures { λ r. ⌜ r ≡ zoneCount built count ⌝ }
 {
     if count == 0 {
         return 0;
     }
-    let a = summary_at(stand, fs, fp, first);
-    let mut b = begin(a);
-    let mut j: usize = 1;
-    while j < count {
-        let i = first + j;
-        let s = summary_at(stand, fs, fp, i);
-        b = next(b, s);
-        j += 1;
-    }
+    let last = count - 1;
+    let b = built[last];
     b.done + 1
 }
 
@@ -138,52 +84,23 @@ fn write_zone(b: Building, zt: &mut [[i64; 2]], zp: &mut [[f64; 5]], zn: &mut [[
     zn[at] = [k, l, f, n];
 }
 
-// The zone so far, where s opens the next.
-fn write_done(
-    b: Building,
-    s: Summary,
-    zt: &mut [[i64; 2]],
-    zp: &mut [[f64; 5]],
-    zn: &mut [[usize; 4]],
-)
-    requires { ⌜ RoomZones (zonesHeld zt zp zn) (b .done + 1) ⌝ }
-    ensures { λ _. ⌜ zonesAfter zt zp zn ≡ setIf (opensOf (b .zone) s) (zonesBefore zt zp zn) b ⌝ }
-{
-    let zone = b.zone;
-    if zone.opens(s) {
-        write_zone(b, zt, zp, zn);
-        return;
-    }
-}
-
-// The run's zones.
-pub fn write_zones(
-    stand: Stand,
-    fs: &[[i64; 6]],
-    fp: &[[f64; 18]],
-    first: usize,
+// The run's zones. A zone's row is written at each of its strokes, and the last stands.
+fn write_zones(
+    built: [Building; 64],
     count: usize,
     zt: &mut [[i64; 2]],
     zp: &mut [[f64; 5]],
     zn: &mut [[usize; 4]],
 )
-    requires { ⌜ RunStands stand (fractalsHeld fs fp) first count ⌝ ∗ ⌜ RoomZones (zonesHeld zt zp zn) (length (zones (readRun stand (fractalsHeld fs fp) first count))) ⌝ }
-    ensures { λ _. ⌜ zonesAfter zt zp zn ≡ putZones (zonesBefore zt zp zn) (getZsSeq (readRun stand (fractalsBefore fs fp) first count)) ⌝ }
+    requires { ⌜ RoomBuilt built count (zonesHeld zt zp zn) ⌝ }
+    ensures { λ _. ⌜ zonesAfter zt zp zn ≡ foldl setZone (zonesBefore zt zp zn) (take count built) ⌝ }
 {
-    if count == 0 {
-        return;
-    }
-    let a = summary_at(stand, fs, fp, first);
-    let mut b = begin(a);
-    let mut j: usize = 1;
+    let mut j: usize = 0;
     while j < count {
-        let i = first + j;
-        let s = summary_at(stand, fs, fp, i);
-        write_done(b, s, zt, zp, zn);
-        b = next(b, s);
+        let b = built[j];
+        write_zone(b, zt, zp, zn);
         j += 1;
     }
-    write_zone(b, zt, zp, zn);
 }
 
 // The rows of a stroke.
@@ -201,23 +118,19 @@ fn write_stroke(s: Summary, bt: &mut [[i64; 2]], bp: &mut [[f64; 2]], bd: &mut [
 }
 
 // The run's strokes.
-pub fn write_strokes(
-    stand: Stand,
-    fs: &[[i64; 6]],
-    fp: &[[f64; 18]],
-    first: usize,
+fn write_strokes(
+    run: [Summary; 64],
     count: usize,
     bt: &mut [[i64; 2]],
     bp: &mut [[f64; 2]],
     bd: &mut [u8],
 )
-    requires { ⌜ RunStands stand (fractalsHeld fs fp) first count ⌝ ∗ ⌜ RoomStrokes (strokesHeld bt bp bd) count ⌝ }
-    ensures { λ _. ⌜ strokesAfter bt bp bd ≡ putStrokes (strokesBefore bt bp bd) (readRun stand (fractalsBefore fs fp) first count) ⌝ }
+    requires { ⌜ count ≤ 64 ⌝ ∗ ⌜ RoomStrokes (strokesHeld bt bp bd) count ⌝ }
+    ensures { λ _. ⌜ strokesAfter bt bp bd ≡ putStrokes (strokesBefore bt bp bd) (take count run) ⌝ }
 {
     let mut j: usize = 0;
     while j < count {
-        let i = first + j;
-        let s = summary_at(stand, fs, fp, i);
+        let s = run[j];
         write_stroke(s, bt, bp, bd, j);
         j += 1;
     }
@@ -240,7 +153,9 @@ fn list_zones(
     requires { ⌜ RunStands stand (fractalsHeld fs fp) first count ⌝ }
     ensures { λ r. ⌜ zonesCall (r .failed) (r .zones) (r .strokes) (zonesAfter zt zp zn) (strokesAfter bt bp bd) ≡ zonesReadIf (zonesBefore zt zp zn) (strokesBefore bt bp bd) (readRun stand (fractalsBefore fs fp) first count) ⌝ }
 {
-    let n = count_zones(stand, fs, fp, first, count);
+    let run = read_run(stand, fs, fp, first, count);
+    let built = zones_of_run(run, count);
+    let n = zone_count(built, count);
     if !fits(n, zt.len(), zp.len(), zn.len()) {
         return ZonesAnswer {
             failed: 14,
@@ -255,8 +170,8 @@ fn list_zones(
             strokes: 0,
         };
     }
-    write_zones(stand, fs, fp, first, count, zt, zp, zn);
-    write_strokes(stand, fs, fp, first, count, bt, bp, bd);
+    write_zones(built, count, zt, zp, zn);
+    write_strokes(run, count, bt, bp, bd);
     ZonesAnswer {
         failed: 0,
         zones: n,

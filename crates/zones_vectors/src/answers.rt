@@ -1,27 +1,23 @@
 // A line's question and its answer.
+ghost use Prim.Native.Nat.{_≤_};
 use crate::items::FractalAt;
 use crate::items::ReadFractal;
-use crate::items::ReadStroke;
 use crate::items::fractal_at;
-use crate::items::stroke_at;
+use crate::items::strokes_of;
 use libc::STDOUT_FILENO;
 use lines::is_word;
 use lines::show;
 use lines::word_end;
 use lines::write_whole;
 use machine::Direction;
+use zones::Building;
 use zones::FakeStroke;
 use zones::GrowingRun;
 use zones::GrowingZone;
 use zones::Summary;
 use zones::fake_count;
 use zones::fake_stroke;
-
-// The zone under construction and how many strokes it has.
-struct Counted {
-    zone: GrowingZone,
-    n: u64,
-}
+use zones::zones_of_run;
 
 fn say(text: &[u8]) {
     io::write_all(STDOUT_FILENO, text);
@@ -71,93 +67,83 @@ fn say_edges(z: GrowingZone) {
     say_float(z.dd);
 }
 
-fn say_zone(c: Counted) {
-    let z = c.zone;
+fn say_zone(b: Building) {
+    let z = b.zone;
     say_ends(z);
     say_edges(z);
     say_bool(z.is_valid());
     say(b" ");
-    io::print_decimal(STDOUT_FILENO, c.n);
+    io::print_decimal(STDOUT_FILENO, b.size as u64);
 }
 
-// The stroke opens a new zone, and the one so far is said; or it joins.
-fn with_stroke(c: Counted, s: Summary) -> Counted {
-    let z = c.zone;
-    if z.opens(s) {
-        say_zone(c);
+// The zone so far, where the next stroke has opened another.
+fn say_done(b: Building, next: Building) {
+    if b.done < next.done {
+        say_zone(b);
         say(b" | ");
-        let zone = GrowingZone::start(s);
-        return Counted { zone, n: 1 };
     }
-    let zone = z.joined(s);
-    let n = std::num::wrapping_add_u64(c.n, 1);
-    Counted { zone, n }
+}
+
+// The zones of a run, of the zone that each of its strokes is in.
+fn say_zones(built: [Building; 64], count: usize)
+    requires { ⌜ count ≤ 64 ⌝ }
+{
+    let mut b = built[0];
+    let mut i: usize = 1;
+    while i < count {
+        let next = built[i];
+        say_done(b, next);
+        b = next;
+        i += 1;
+    }
+    say_zone(b);
 }
 
 // Whether the line could be read to its end; so for each question.
-fn say_zones(line: &[u8], from: usize, first: Summary) -> bool {
-    let zone = GrowingZone::start(first);
-    let mut c = Counted { zone, n: 1 };
-    let mut at = from;
-    while at < line.len() {
-        let ReadStroke::Is(s) = stroke_at(line, at) else {
-            return false;
-        };
-        let end = s.end;
-        if end <= at {
-            return false;
-        }
-        let summary = s.summary;
-        c = with_stroke(c, summary);
-        at = end;
-    }
-    say_zone(c);
-    true
-}
-
 fn zones_of(line: &[u8], from: usize) -> bool {
-    if line.len() <= from {
+    let strokes = strokes_of(line, from);
+    let run = strokes.run;
+    let count = strokes.count;
+    if !strokes.read {
+        return false;
+    }
+    if count == 0 {
         say(b"empty");
         return true;
     }
-    let ReadStroke::Is(s) = stroke_at(line, from) else {
-        return false;
-    };
-    let summary = s.summary;
-    say_zones(line, s.end, summary)
+    say_zones(zones_of_run(run, count), count);
+    true
 }
 
-fn say_run(line: &[u8], from: usize, first: Summary) -> bool {
+fn say_run(strokes: [Summary; 64], count: usize)
+    requires { ⌜ count ≤ 64 ⌝ }
+{
+    let first = strokes[0];
     let mut run = GrowingRun::start(first);
-    let mut at = from;
-    while at < line.len() {
-        let ReadStroke::Is(s) = stroke_at(line, at) else {
-            return false;
-        };
-        let end = s.end;
-        if end <= at {
-            return false;
-        }
-        let summary = s.summary;
-        run = run.more(summary);
-        at = end;
+    let mut i: usize = 1;
+    while i < count {
+        let s = strokes[i];
+        run = run.more(s);
+        i += 1;
     }
     say_bool(run.is_bis_up());
     say(b" ");
     say_bool(run.is_bis_down());
-    true
 }
 
 fn bis_of(line: &[u8], from: usize) -> bool {
-    if line.len() <= from {
+    let strokes = strokes_of(line, from);
+    let run = strokes.run;
+    let count = strokes.count;
+    if !strokes.read {
+        return false;
+    }
+    if count == 0 {
         say(b"0 0");
         return true;
     }
-    let ReadStroke::Is(s) = stroke_at(line, from) else {
-        return false;
-    };
-    let summary = s.summary;
-    say_run(line, s.end, summary)
+    say_run(run, count);
+    true
 }
 
 fn say_fake(f: FakeStroke) {

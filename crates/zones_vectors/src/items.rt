@@ -1,4 +1,5 @@
 // Strokes and fractals read from a line.
+ghost use Prim.Native.Nat.{_≤_};
 use check_bi::Candle;
 use lines::Bits;
 use lines::WholeAt;
@@ -8,6 +9,7 @@ use lines::whole_at;
 use machine::Direction;
 use machine::Mark;
 use zones::Summary;
+use zones::no_stroke;
 
 // A stroke and the place behind it.
 pub struct StrokeAt {
@@ -18,6 +20,13 @@ pub struct StrokeAt {
 pub enum ReadStroke {
     Is(StrokeAt),
     Bad,
+}
+
+// The strokes of a line, how many they are, and whether the line could be read to its end.
+pub struct StrokesRead {
+    pub run: [Summary; 64],
+    pub count: usize,
+    pub read: bool,
 }
 
 // A fractal and the place behind it.
@@ -96,6 +105,47 @@ pub fn stroke_at(line: &[u8], at: usize) -> ReadStroke {
         return stroke_from(line, at + 5, Direction::Down);
     }
     ReadStroke::Bad
+}
+
+fn unread(run: [Summary; 64]) -> StrokesRead
+    ensures { λ r. ⌜ r .count ≤ 64 ⌝ }
+{
+    StrokesRead {
+        run,
+        count: 0,
+        read: false,
+    }
+}
+
+// The strokes from place `from` on. A line with more than 64 is not read.
+pub fn strokes_of(line: &[u8], from: usize) -> StrokesRead
+    ensures { λ r. ⌜ r .count ≤ 64 ⌝ }
+{
+    let none = no_stroke();
+    let mut run = [none; 64];
+    let mut count: usize = 0;
+    let mut at = from;
+    while at < line.len() {
+        let ReadStroke::Is(s) = stroke_at(line, at) else {
+            return unread(run);
+        };
+        let end = s.end;
+        if end <= at {
+            return unread(run);
+        }
+        if 64 <= count {
+            return unread(run);
+        }
+        let summary = s.summary;
+        run[count] = summary;
+        count += 1;
+        at = end;
+    }
+    StrokesRead {
+        run,
+        count,
+        read: true,
+    }
 }
 
 // What follows a fractal's mark, from place `at` on.

@@ -8,8 +8,8 @@
 // `up|down SDT EDT HIGH LOW POWER`; items stand with ` | ` between them, and `empty` stands for none.
 // That of `bis` is is_bis_up and is_bis_down, 0 or 1 each. A float is the 16 lower-case hexadecimal
 // digits of its bits, with `nan` for every NaN in an answer. An empty line and one that starts with
-// `#` have no answer, any other line ends in `bad line N`, and one of more than 65,536 bytes is
-// `too long`.
+// `#` have no answer, any other line ends in `bad line N`, as one of more than 64 strokes does, and
+// one of more than 65,536 bytes is `too long`.
 //
 // The questions in stdin are the first 1,100 of each name of those that `oracle/vectors zones 1`
 // makes, and the answers in stdout are those of the Rust itself: the driver of oracle/, which links

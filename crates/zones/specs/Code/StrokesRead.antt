@@ -57,5 +57,5 @@ pub record StrokeStands (s : Stand) (f : FractalStore) (i : ℕ) : Type 0 where
 
 -- so it is for every stroke of a run
 pub record RunStands (s : Stand) (f : FractalStore) (first count : ℕ) : Type 0 where
-  pub places : first + count ≤ 65
+  pub places : first + count ≤ 64
   pub each : (j : ℕ) → j < count → StrokeStands s f (first + j)
