@@ -1,6 +1,6 @@
 -- Zones that are built and written stroke by stroke are those of get_zs_seq.
 -- Assumes nothing.
-use Prim.Native.Nat.{ℕ, zero, suc, _+_, _-_, _≤_, _<_}
+use Prim.Native.Nat.{ℕ, zero, suc, _+_, _≤_, _<_}
 use native.Mathlib.Omega.{arith}
 use native.Mathlib.Numerals.{add-one}
 use mathlib.Core.Path.{_≡_, refl, ap, sym, _∙_, subst}
@@ -8,9 +8,6 @@ use mathlib.Core.Bool.{Bool, true, false}
 use mathlib.Core.List.{List, [], _∷_, _++_, map, map-append, foldl}
 use lib.ListN.{length, take, drop, getD, set, length-append, length-map, length-drop, length-set}
 use lib.Seq.{drop-cons, drop-drop, take-suc, take-all, length-take-le, set-set}
-use lib.Dec.{eqb}
-use lib.IntN.{ℤ}
-use lib.Ieee.{Float}
 use borrow.Author.Tests.{ne-eqb}
 use Rattle.strokes.specs.FractalRows.{pasted}
 use Rattle.zones.specs.declared.Summary.{Summary}
