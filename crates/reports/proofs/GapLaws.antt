@@ -1,27 +1,31 @@
 -- What a sound stand gives the gap reports. Assumes nothing.
-use Prim.Native.Nat.{ℕ, zero, suc, _-_, _≤_, _<_}
+use Prim.Native.Nat.{ℕ, zero, suc, _+_, _-_, _≤_, _<_}
 use native.Mathlib.Omega.{arith}
 use mathlib.Core.Path.{_≡_, refl, ap, sym, _∙_, subst}
 use mathlib.Core.Bool.{Bool, true, false, _&&_}
-use mathlib.Core.List.{List}
-use lib.ListN.{length, take}
+use mathlib.Core.List.{List, [], map}
+use mathlib.Core.Option.{Option·some-injective}
+use lib.ListN.{length, take, getD, length-map, List·getD-map}
 use lib.Seq.{length-take-le}
-use lib.Dec.{leb}
+use lib.Dec.{leb, ltb}
 use lib.Ieee.{Float}
-use borrow.Author.Tests.{le-leb}
+use borrow.Author.Tests.{le-leb, ltb-true}
+use Rattle.bars.specs.declared.gaps.Gap.{Gap}
+use Rattle.bars.specs.declared.gaps.Gap.the-variants.{NoGap}
 use Rattle.bars.specs.declared.gaps.GapAnswer.{GapAnswer}
-use Rattle.bars.specs.Gaps.{gapAt, gapAmong, unlessShort, gapsOf, GapColumns, GapsListed, gapsListed, listIf, listGaps, written}
+use Rattle.bars.specs.Gaps.{gapNumber, gapValues, gapCovered, answerNumber, pairIf, gapAt, gapAmong, unlessShort, gapsOf, GapColumns, GapsListed, gapsListed, listIf, listGaps, written}
 use Rattle.bars.proofs.GapPairs.{gaps-length}
 use Rattle.strokes.specs.declared.Stand.{Stand}
 use Rattle.strokes.specs.Lent.{Stores}
 use Rattle.named.specs.ReportQuestions.{question14}
+use Rattle.named.proofs.StrokeAt.{nth-at}
 use Rattle.question4.specs.Question4.{question4}
 use Rattle.question4.proofs.Question4Passed.{is-sound}
 use Rattle.sound.proofs.SoundFacts.{sound-fit}
 use Rattle.reports.specs.declared.gaps.GapInfo.{GapInfo}
 use Rattle.reports.specs.declared.gaps.GapsAnswer.{GapsAnswer}
 use Rattle.reports.specs.Code.GapSteps.{countIf}
-use Rattle.reports.specs.GapAnswers.{keptPrices, noGap, pairGiven, pairBy, gapReport, GapsAnswered, gapsAnswered, gapsFit, gapsBy, gapsReport}
+use Rattle.reports.specs.GapAnswers.{keptPrices, noGap, pairGiven, pairBy, gapReport, ListedAt, GapsAnswered, gapsAnswered, gapsFit, gapsBy, gapsReport}
 
 -- the rows of the kept raw bars are there
 rows-there : (s : Stand) (m : Stores) → question4 s m ≡ true → s .raw ≤ length (m .raw .prices)
@@ -45,6 +49,34 @@ pair-yes s m i a r e w q =
     q
     ∙ ap pairGiven (w ∙ among-all (m .raw .prices) (s .raw) i (rows-there s m e))
     ∙ ap (λ (t : Bool). pairBy t (gapAt (keptPrices s m) i)) (sym e)
+
+-- what is read within a column, whatever stands for a place outside it
+column-at : {B : Type 0} (f : Gap → B) (gs : List Gap) (i : ℕ) (z : B) → i < length gs → f (getD gs i NoGap) ≡ getD (map f gs) i z
+column-at f gs i z h =
+    let w : i < length (map f gs) = omega (arith, length-map gs f) in
+    sym (List·getD-map f gs i NoGap) ∙ Option·some-injective _ _ (sym (nth-at (map f gs) i (f NoGap) w) ∙ nth-at (map f gs) i z w)
+
+-- by question 4, and by whether there is such a pair
+listed-if : (q t : Bool) (ps : List (List Float)) (i : ℕ) → ltb (i + 1) (length ps) ≡ t → pairBy q (pairIf t (getD (gapsOf ps) i NoGap)) .failed ≡ 0
+    → ListedAt ps i (pairBy q (pairIf t (getD (gapsOf ps) i NoGap)) .gap)
+unfolding pairBy pairIf pairGiven noGap answerNumber
+listed-if false t ps i e f = absurd (omega arith)
+listed-if true false ps i e f = absurd (omega arith)
+listed-if true true ps i e f =
+    let gs = gapsOf ps in
+    let w : i < length gs = omega (arith, ltb-true (i + 1) (length ps) e, gaps-length ps) in
+    record {
+      within = w;
+      number = column-at gapNumber gs i 0 w;
+      values = column-at gapValues gs i [] w;
+      covered = column-at gapCovered gs i false w;
+    }
+
+pub pair-listed : (s : Stand) (m : Stores) (i : ℕ) (r : GapInfo) → r ≡ gapReport s m i → r .failed ≡ 0 → ListedAt (keptPrices s m) i (r .gap)
+unfolding gapReport gapAt
+pair-listed s m i r e f =
+    let ps = keptPrices s m in
+    subst (λ (x : GapInfo). ListedAt ps i (x .gap)) (sym e) (listed-if (question4 s m) (ltb (i + 1) (length ps)) ps i refl (sym (ap (λ (x : GapInfo). x .failed) e) ∙ f))
 
 -- ---- all pairs
 

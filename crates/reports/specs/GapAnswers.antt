@@ -1,14 +1,15 @@
 -- What the gap reports answer of a stand and its lent stores: one pair of neighbouring kept raw bars, and all of them. Definitions only.
-use Prim.Native.Nat.{ℕ}
+use Prim.Native.Nat.{ℕ, _<_}
 use mathlib.Core.Bool.{Bool, true, false, _&&_}
-use mathlib.Core.List.{List}
-use lib.ListN.{length, take}
+use mathlib.Core.List.{List, [], map}
+use mathlib.Core.Path.{_≡_}
+use lib.ListN.{length, take, getD}
 use lib.Ieee.{Float}
 use Rattle.bars.specs.declared.gaps.Gap.{Gap}
 use Rattle.bars.specs.declared.gaps.Gap.the-variants.{NoGap}
 use Rattle.bars.specs.declared.gaps.GapAnswer.{GapAnswer}
 use Rattle.bars.specs.declared.gaps.GapAnswer.the-variants.{Pair, Missing}
-use Rattle.bars.specs.Gaps.{gapAt, gapsOf, GapColumns, written}
+use Rattle.bars.specs.Gaps.{gapAt, gapsOf, gapNumber, gapValues, gapCovered, answerNumber, GapColumns, written}
 use Rattle.strokes.specs.declared.Stand.{Stand}
 use Rattle.strokes.specs.Lent.{Stores}
 use Rattle.named.specs.ReportQuestions.{question14}
@@ -27,9 +28,9 @@ noGap failed = record { failed = failed; gap = NoGap }
 
 -- question 13: whether there is such a pair
 unfoldable pub pairGiven : GapAnswer → GapInfo
-unfolding noGap
-pairGiven (Pair g) = record { failed = 0; gap = g }
-pairGiven Missing = noGap 13
+unfolding noGap answerNumber
+pairGiven (Pair g) = record { failed = answerNumber (Pair g); gap = g }
+pairGiven Missing = noGap (answerNumber Missing)
 
 -- by question 4
 unfoldable pub pairBy : Bool → GapAnswer → GapInfo
@@ -41,6 +42,13 @@ pairBy false a = noGap 4
 unfoldable pub gapReport : Stand → Stores → ℕ → GapInfo
 unfolding pairBy question4 gapAt keptPrices
 gapReport s m i = pairBy (question4 s m) (gapAt (keptPrices s m) i)
+
+-- g is the gap that the listing of all pairs of these rows has at place i: its number, its values and whether it was covered
+pub record ListedAt (ps : List (List Float)) (i : ℕ) (g : Gap) : Type 0 where
+  pub within : i < length (gapsOf ps)
+  pub number : gapNumber g ≡ getD (map gapNumber (gapsOf ps)) i 0
+  pub values : gapValues g ≡ getD (map gapValues (gapsOf ps)) i []
+  pub covered : gapCovered g ≡ getD (map gapCovered (gapsOf ps)) i false
 
 -- ---- all pairs
 

@@ -3,7 +3,7 @@
 ghost use mathlib.Core.Path.{_≡_};
 ghost use Rattle.bars.specs.Gaps.{gapColumns};
 ghost use Rattle.strokes.specs.Lent.{before};
-ghost use Rattle.reports.specs.GapAnswers.{noGap, pairGiven, gapReport, gapsAnswered, gapsReport};
+ghost use Rattle.reports.specs.GapAnswers.{keptPrices, noGap, pairGiven, gapReport, ListedAt, gapsAnswered, gapsReport};
 ghost use Rattle.reports.specs.Code.GapSteps.{countIf};
 use bars::Gap;
 use bars::GapAnswer;
@@ -40,7 +40,7 @@ fn given_pair(a: GapAnswer) -> GapInfo
     }
 }
 
-// The kept raw bars at `place` and `place` + 1.
+// The kept raw bars at `place` and `place` + 1. Where it answers, the gap is what check_gaps lists at that place.
 pub fn check_gap_info(
     stand: Stand,
     rt: &[i64],
@@ -60,7 +60,7 @@ pub fn check_gap_info(
     fp: &[[f64; 18]],
     place: usize,
 ) -> GapInfo
-    ensures { λ r. ⌜ r ≡ gapReport stand (before rt ri rp ut ui up uc ue st si sp sc se fs fp) place ⌝ }
+    ensures { λ r. ⌜ (r ≡ gapReport stand (before rt ri rp ut ui up uc ue st si sp sc se fs fp) place) × (r .failed ≡ 0 → ListedAt (keptPrices stand (before rt ri rp ut ui up uc ue st si sp sc se fs fp)) place (r .gap)) ⌝ }
 {
     let n = stand.raw;
     if !question4::is_sound(

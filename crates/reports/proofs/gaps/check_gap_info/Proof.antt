@@ -1,7 +1,7 @@
 use mathlib.Core.Path.{sym, _∙_}
 use borrow.Author.Tests.{not-true, not-false}
 use Rattle.strokes.specs.Lent.{storesOf}
-use Rattle.reports.proofs.GapLaws.{pair-no, pair-yes}
+use Rattle.reports.proofs.GapLaws.{pair-no, pair-yes, pair-listed}
 use borrow.Author.Needs.{needs}
 use Rattle.reports.proofs.gaps.check_gap_info.Statement.{statement}
 use Rattle.reports.proofs.gaps.check_gap_info.Tie as tie
@@ -13,7 +13,7 @@ refused-gap-requires : tie.Need-refused-gap-requires
 refused-gap-requires c κs = search needs
 
 returns : tie.Need-returns
-returns c = pair-no _ _ _ _ (sym (c .before .before .is-sound .ensures) ∙ not-true _ (c .before .if1 .taken)) (c .refused-gap .ensures)
+returns c = let e = pair-no _ _ _ _ (sym (c .before .before .is-sound .ensures) ∙ not-true _ (c .before .if1 .taken)) (c .refused-gap .ensures) in (e, pair-listed _ _ _ _ e)
 
 check-gap-info-requires : tie.Need-check-gap-info-requires
 check-gap-info-requires c κs = search needs
@@ -23,7 +23,7 @@ given-pair-requires c κs = search needs
 
 returns-2 : tie.Need-returns-2
 unfolding storesOf
-returns-2 c = pair-yes _ _ _ _ _ (sym (c .before .before .before .is-sound .ensures) ∙ not-false _ (c .before .before .if1 .left)) (c .before .check-gap-info .ensures) (c .given-pair .ensures)
+returns-2 c = let e = pair-yes _ _ _ _ _ (sym (c .before .before .before .is-sound .ensures) ∙ not-false _ (c .before .before .if1 .left)) (c .before .check-gap-info .ensures) (c .given-pair .ensures) in (e, pair-listed _ _ _ _ e)
 
 pub check-gap-info-spec : {M : Type 1} → statement M
 check-gap-info-spec =

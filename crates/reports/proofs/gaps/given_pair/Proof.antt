@@ -1,4 +1,5 @@
 use mathlib.Core.Path.{sym, ap, _∙_}
+use Rattle.bars.specs.Gaps.{answerNumber}
 use Rattle.reports.specs.GapAnswers.{pairGiven}
 use borrow.Author.Needs.{needs}
 use Rattle.reports.proofs.gaps.given_pair.Statement.{statement}
@@ -14,11 +15,11 @@ refused-gap-requires : tie.Need-refused-gap-requires
 refused-gap-requires c κs = search needs
 
 returns : tie.Need-returns
-unfolding pairGiven
+unfolding pairGiven answerNumber
 returns c = ap pairGiven (sym (c .before .a .given .1))
 
 returns-2 : tie.Need-returns-2
-unfolding pairGiven
+unfolding pairGiven answerNumber
 returns-2 c = c .refused-gap .ensures ∙ ap pairGiven (sym (c .before .enum-told .given .1))
 
 pub given-pair-spec : {M : Type 1} → statement M
