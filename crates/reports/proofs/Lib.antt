@@ -7,6 +7,7 @@ pub mod ListFacts
 pub mod UbiLaws
 pub mod UbiFacts
 pub mod StrokeColumns
+pub mod StrengthLaws
 pub mod NamedAnswers
 pub mod SeekLaws
 pub mod FxLaws

@@ -3,6 +3,7 @@
 use Prim.Native.Nat.{ℕ}
 use mathlib.Core.Bool.{Bool, true, false}
 use mathlib.Core.Option.{Option, none, some}
+use mathlib.Core.Path.{_≡_}
 use lib.IntN.{pos}
 use lib.Ieee.{fin}
 use Rattle.machine.specs.Fractals.{Fractal}
@@ -13,7 +14,7 @@ use Rattle.question4.specs.Question4.{question4}
 use Rattle.reports.specs.declared.fractal_answers.Strength.the-variants.{Weak}
 use Rattle.reports.specs.declared.fractal_answers.FractalAnswers.{FractalAnswers}
 use Rattle.reports.specs.declared.asked_fractals.FractalAnswer.{FractalAnswer}
-use Rattle.reports.specs.FractalAnswers.{answersOf}
+use Rattle.reports.specs.FractalAnswers.{answersOf, IsStrength}
 use Rattle.named.specs.ReportQuestions.{fractalAt, unfinishedAt}
 
 -- what a refusal answers
@@ -26,6 +27,10 @@ unfolding noAnswers answersOf
 answersIf false o = record { failed = 4; answers = noAnswers }
 answersIf true none = record { failed = 13; answers = noAnswers }
 answersIf true (some f) = record { failed = 0; answers = answersOf f }
+
+-- where it answers of the fractal that o is, the strength is that fractal's
+abbrev pub StrengthAnswered : Option Fractal → FractalAnswer → Type 0
+StrengthAnswered o r = r .failed ≡ 0 → (f : Fractal) → o ≡ some f → IsStrength f (r .answers .«power_str»)
 
 -- of fractal j of the stroke at place i
 unfoldable pub strokeAnswersAt : Stand → Stores → ℕ → ℕ → FractalAnswer

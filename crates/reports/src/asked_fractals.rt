@@ -4,11 +4,12 @@ ghost use mathlib.Core.Path.{_≡_};
 ghost use mathlib.Core.List.{[]};
 ghost use Prim.Native.Nat.{_+_, _≤_, _<_};
 ghost use lib.ListN.{length, getD};
-ghost use Rattle.strokes.specs.StateRead.{rowFractal};
+ghost use Rattle.strokes.specs.StateRead.{rowFractal, stateOf};
 ghost use Rattle.strokes.specs.Lent.{before};
 ghost use Rattle.reports.specs.FractalAnswers.{answersOf};
 ghost use Rattle.named.specs.Code.NamedRows.{RowsStand};
-ghost use Rattle.reports.specs.NamedFractals.{noAnswers, strokeAnswersAt, unfinishedAnswersAt};
+ghost use Rattle.named.specs.ReportQuestions.{fractalAt, unfinishedAt};
+ghost use Rattle.reports.specs.NamedFractals.{noAnswers, StrengthAnswered, strokeAnswersAt, unfinishedAnswersAt};
 ghost use Rattle.reports.specs.Code.SeekFractals.{foundOf, answerOr13};
 use super::fractal_answers::FractalAnswers;
 use super::fractal_answers::Strength;
@@ -72,7 +73,7 @@ pub fn stroke_fractal_answers(
     stroke: usize,
     place: usize,
 ) -> FractalAnswer
-    ensures { λ r. ⌜ r ≡ strokeAnswersAt stand (before rt ri rp ut ui up uc ue st si sp sc se fs fp) stroke place ⌝ }
+    ensures { λ r. ⌜ (r ≡ strokeAnswersAt stand (before rt ri rp ut ui up uc ue st si sp sc se fs fp) stroke place) × StrengthAnswered (fractalAt ((stateOf stand (before rt ri rp ut ui up uc ue st si sp sc se fs fp)) .strokes) stroke place) r ⌝ }
 {
     if !question4::is_sound(
         stand,
@@ -133,7 +134,7 @@ pub fn unfinished_fractal_answers(
     fp: &[[f64; 18]],
     place: usize,
 ) -> FractalAnswer
-    ensures { λ r. ⌜ r ≡ unfinishedAnswersAt stand (before rt ri rp ut ui up uc ue st si sp sc se fs fp) place ⌝ }
+    ensures { λ r. ⌜ (r ≡ unfinishedAnswersAt stand (before rt ri rp ut ui up uc ue st si sp sc se fs fp) place) × StrengthAnswered (unfinishedAt ((stateOf stand (before rt ri rp ut ui up uc ue st si sp sc se fs fp)) .unfinished) place) r ⌝ }
 {
     if !question4::is_sound(
         stand,

@@ -2,7 +2,7 @@
 // part of any answer, so in contracts its bars have none.
 ghost use mathlib.Core.Path.{_≡_};
 ghost use mathlib.Core.List.{[]};
-ghost use Rattle.reports.specs.FractalAnswers.{strengthIf, powerStr, fractalVolume, hasZs, answersOf};
+ghost use Rattle.reports.specs.FractalAnswers.{strengthIf, powerStr, IsStrength, fractalVolume, hasZs, answersOf};
 use arith::max;
 use arith::min;
 use bars::Bar;
@@ -36,7 +36,7 @@ fn strength_of(strong: bool, medium: bool) -> Strength
 
 // After a bottom, the third bar's close against the highs of the first two; after a top, against their lows.
 pub fn power_str(mark: Mark, a: Bar, b: Bar, c: Bar) -> Strength
-    ensures { λ r. ⌜ r ≡ powerStr (record { mark = mark; left = record { bar = a; elements = [] }; mid = record { bar = b; elements = [] }; right = record { bar = c; elements = [] } }) ⌝ }
+    ensures { λ r. ⌜ (r ≡ powerStr (record { mark = mark; left = record { bar = a; elements = [] }; mid = record { bar = b; elements = [] }; right = record { bar = c; elements = [] } })) × IsStrength (record { mark = mark; left = record { bar = a; elements = [] }; mid = record { bar = b; elements = [] }; right = record { bar = c; elements = [] } }) r ⌝ }
 {
     match mark {
         Mark::D => strength_of(a.high < c.close, b.high < c.close),

@@ -1,5 +1,6 @@
 use Rattle.reports.proofs.NamedAnswers.{stroke-none, stroke-kept, stroke-after, answers-unsound, answers-missing, answers-fit, answers-in}
 use Rattle.reports.proofs.StrokeColumns.{rows-small, lends}
+use Rattle.reports.proofs.StrengthLaws.{stroke-strength}
 use Rattle.question4.proofs.Question4Passed.{is-sound as sound-of}
 use Rattle.strokes.specs.Lent.{storesOf}
 use borrow.Author.Tests.{not-true, not-false}
@@ -15,7 +16,7 @@ refused-requires : tie.Need-refused-requires
 refused-requires c κs = search needs
 
 returns : tie.Need-returns
-returns c = answers-unsound _ _ _ _ _ (c .refused .ensures) (sym (c .before .before .is-sound .ensures) ∙ not-true _ (c .before .if1 .taken))
+returns c = stroke-strength _ _ _ _ _ (answers-unsound _ _ _ _ _ (c .refused .ensures) (sym (c .before .before .is-sound .ensures) ∙ not-true _ (c .before .if1 .taken)))
 
 kept-requires : tie.Need-kept-requires
 kept-requires c κs = search needs
@@ -24,7 +25,7 @@ refused-requires-2 : tie.Need-refused-requires-2
 refused-requires-2 c κs = search needs
 
 returns-2 : tie.Need-returns-2
-returns-2 c = answers-missing _ _ _ _ _ (c .refused2 .ensures) (sym (c .before .before .before .before .is-sound .ensures) ∙ not-false _ (c .before .before .before .if1 .left)) (stroke-none _ _ _ (sym (c .before .before .before .before .is-sound .ensures) ∙ not-false _ (c .before .before .before .if1 .left)) (c .before .before .kept .ensures .1) (c .before .before .kept .ensures .2) (stroke-after _ _ _ (c .before .before .kept .ensures .0) (c .before .if2 .taken)))
+returns-2 c = stroke-strength _ _ _ _ _ (answers-missing _ _ _ _ _ (c .refused2 .ensures) (sym (c .before .before .before .before .is-sound .ensures) ∙ not-false _ (c .before .before .before .if1 .left)) (stroke-none _ _ _ (sym (c .before .before .before .before .is-sound .ensures) ∙ not-false _ (c .before .before .before .if1 .left)) (c .before .before .kept .ensures .1) (c .before .before .kept .ensures .2) (stroke-after _ _ _ (c .before .before .kept .ensures .0) (c .before .if2 .taken))))
 
 rows-of-requires : tie.Need-rows-of-requires
 rows-of-requires c κs = rows-small _ _ _ (sound-of _ _ (sym (c .before .before .before .is-sound .ensures) ∙ not-false _ (c .before .before .if1 .left))) (stroke-kept _ _ _ (c .before .kept .ensures .0) (c .if2 .left)) (c .before .kept .ensures .1) (c .before .kept .ensures .2)
@@ -35,7 +36,7 @@ answers-in-requires c κs = answers-fit _ _ _ _ (lends _ _ _ _ (sound-of _ _ (sy
 
 returns-3 : tie.Need-returns-3
 unfolding storesOf
-returns-3 c = let l = lends _ _ _ _ (sound-of _ _ (sym (c .before .before .before .before .before .is-sound .ensures) ∙ not-false _ (c .before .before .before .before .if1 .left))) (stroke-kept _ _ _ (c .before .before .before .kept .ensures .0) (c .before .before .if2 .left)) (c .before .rows-of .ensures .0) (c .before .before .before .kept .ensures .1) (c .before .before .before .kept .ensures .2) in answers-in _ _ _ _ _ _ l (sym (c .before .before .before .before .before .is-sound .ensures) ∙ not-false _ (c .before .before .before .before .if1 .left)) (c .answers-in .ensures .0) (c .answers-in .ensures .1)
+returns-3 c = let l = lends _ _ _ _ (sound-of _ _ (sym (c .before .before .before .before .before .is-sound .ensures) ∙ not-false _ (c .before .before .before .before .if1 .left))) (stroke-kept _ _ _ (c .before .before .before .kept .ensures .0) (c .before .before .if2 .left)) (c .before .rows-of .ensures .0) (c .before .before .before .kept .ensures .1) (c .before .before .before .kept .ensures .2) in stroke-strength _ _ _ _ _ (answers-in _ _ _ _ _ _ l (sym (c .before .before .before .before .before .is-sound .ensures) ∙ not-false _ (c .before .before .before .before .if1 .left)) (c .answers-in .ensures .0) (c .answers-in .ensures .1))
 
 pub stroke-fractal-answers-spec : {M : Type 1} → statement M
 stroke-fractal-answers-spec =

@@ -14,7 +14,7 @@ has-zs-requires c κs = search needs
 
 returns : tie.Need-returns
 unfolding answersOf
-returns c = rw (c .before .before .power-str .ensures, c .before .power-volume .ensures, c .has-zs .ensures)
+returns c = rw (c .before .before .power-str .ensures .0, c .before .power-volume .ensures, c .has-zs .ensures)
 
 pub answers-of-spec : {M : Type 1} → statement M
 answers-of-spec =
