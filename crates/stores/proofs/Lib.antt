@@ -4,4 +4,3 @@ pub mod InUse
 pub mod Searching
 pub mod KeptBars
 pub mod AgainBound
-pub mod TailRuns

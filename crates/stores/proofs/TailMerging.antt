@@ -6,11 +6,13 @@ use mathlib.Core.List.{List, [], _∷_, _++_, append-assoc}
 use native.Mathlib.Numerals.{add-one}
 use native.Mathlib.Omega.{arith}
 use lib.ListN.{length, take, getD}
-use lib.Seq.{take-suc, append-snoc}
+use lib.Seq.{take-suc, append-snoc, drop-set-lt}
 use lib.Ieee.{Float}
 use Rattle.bars.specs.declared.Bar.{Bar}
-use Rattle.stores.specs.Stores.{RawStore, rawBars}
+use Rattle.bars.specs.Bars.{rowOf}
+use Rattle.stores.specs.Stores.{RawStore, rawStore, rawBars}
 use Rattle.stores.specs.Code.StoreRows.{SizedRaw, RoomRaw, barAt, setBar}
+use Rattle.stores.specs.Code.TailRows.{rowsFrom}
 use Rattle.bars.specs.Code.MergedBars.{removeIncludeBar, mergeBars, inPlaceOf, behind}
 use Rattle.stores.proofs.Columns.{raw-length, raw-at, raw-appended}
 use Rattle.bars.proofs.MergedLists.{merge-local}
@@ -92,3 +94,10 @@ module _ (s : RawStore) (k : ℕ) (sized : SizedRaw s k) where
       tail-within more g =
           last-two (behind any k0) (take (m - 2) (rawBars s)) (barAt s (m - 2)) (barAt s (m - 1)) b t (take m (rawBars s)) (take (m - 1) (rawBars s))
           (ends (m - 1) (m - 2) (omega arith) (omega arith)) (ends m (m - 1) (omega arith) (omega arith)) (rw (← g) is)
+
+-- a row written before place r leaves the rows from there on as they were
+pub beyond-set : (s t : RawStore) (p r : ℕ) (b : Bar) → p < r → t ≡ setBar s p b → rowsFrom r t ≡ rowsFrom r s
+unfolding rowsFrom setBar
+beyond-set s t p r b h e =
+    ap (rowsFrom r) e
+    ∙ (λ i. rawStore (drop-set-lt r (s .times) p (b .time) h i) (drop-set-lt r (s .ids) p (b .id) h i) (drop-set-lt r (s .prices) p (rowOf b) h i))

@@ -1,11 +1,10 @@
-use Rattle.stores.proofs.TailMerging.{last-merged, last-own}
+use Rattle.stores.proofs.TailMerging.{last-merged, last-own, beyond-set}
 use Rattle.stores.specs.Stores.{RawStore, rawStore, rawBars}
 use lib.ListN.{take, length}
 use mathlib.Core.List.{_++_}
 use mathlib.Core.Path.{_≡_, _∙_, sym, refl, ap}
 use Prim.Native.Nat.{ℕ, _+_, _-_}
 use native.Mathlib.Omega.{arith}
-use Rattle.stores.proofs.TailRuns.{beyond-set}
 use borrow.Author.Needs.{needs}
 use Rattle.stores.proofs.tails.include_last.Statement.{statement}
 use Rattle.stores.proofs.tails.include_last.Tie as tie

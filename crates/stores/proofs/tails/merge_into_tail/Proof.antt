@@ -1,6 +1,6 @@
 use Rattle.stores.specs.Stores.{barOf}
 use Rattle.stores.specs.Code.StoreRows.{barAt}
-use Rattle.stores.proofs.TailMerging.{tail-first, tail-alone, tail-behind, tail-within}
+use Rattle.stores.proofs.TailMerging.{tail-first, tail-alone, tail-behind, tail-within, beyond-set}
 use Rattle.bars.specs.Code.MergedBars.{behind}
 use Rattle.stores.specs.Stores.{RawStore, rawStore, rawBars}
 use lib.ListN.{take, length}
@@ -8,7 +8,6 @@ use mathlib.Core.List.{_++_}
 use mathlib.Core.Path.{_≡_, _∙_, sym, refl, ap}
 use Prim.Native.Nat.{ℕ, _+_}
 use native.Mathlib.Omega.{arith}
-use Rattle.stores.proofs.TailRuns.{beyond-set}
 use borrow.Author.Needs.{needs}
 use Rattle.stores.proofs.tails.merge_into_tail.Statement.{statement}
 use Rattle.stores.proofs.tails.merge_into_tail.Tie as tie
