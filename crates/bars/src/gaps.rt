@@ -89,7 +89,7 @@ fn gap_of_pair(prices: &[[f64; 6]], n: usize, i: usize, j: usize) -> Gap
 }
 
 // The pair of bars i and i + 1 of the first n.
-pub fn check_gap_info(prices: &[[f64; 6]], n: usize, i: usize) -> GapAnswer
+pub fn gap_among(prices: &[[f64; 6]], n: usize, i: usize) -> GapAnswer
     ensures { λ r. ⌜ r ≡ gapAmong (now (prices .entry)) n i ⌝ }
 {
     if prices.len() < n {
@@ -136,7 +136,7 @@ fn gap_covered(g: Gap) -> bool
 }
 
 // How many pairs n bars have.
-fn pairs(n: usize) -> usize
+pub fn pairs(n: usize) -> usize
     ensures { λ r. ⌜ r ≡ n - 1 ⌝ }
 {
     if n == 0 {
@@ -169,7 +169,7 @@ fn write_gaps(
 
 // All pairs of the first n bars, oldest first, into lent columns: which kind of gap, its edges and ratio, whether it was covered.
 // Answers 0; 4 where there are no n bars, and 14 where a column has fewer places than there are pairs, and then nothing is written.
-pub fn check_gaps(
+pub fn list_gaps(
     prices: &[[f64; 6]],
     n: usize,
     kinds: &mut [u64],

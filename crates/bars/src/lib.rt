@@ -5,8 +5,9 @@ mod questions;
 
 pub use gaps::Gap;
 pub use gaps::GapAnswer;
-pub use gaps::check_gap_info;
-pub use gaps::check_gaps;
+pub use gaps::gap_among;
+pub use gaps::list_gaps;
+pub use gaps::pairs;
 pub use merging::Included;
 pub use merging::IncludedBar;
 pub use merging::new_from_raw;

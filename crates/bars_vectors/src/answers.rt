@@ -99,12 +99,12 @@ fn show_gaps(prices: &[[f64; 6]], n: usize) {
         io::write_all(STDOUT_FILENO, b"empty\n");
         return;
     }
-    show_answer(bars::check_gap_info(prices, n, 0));
+    show_answer(bars::gap_among(prices, n, 0));
     let m = n - 1;
     let mut i: usize = 1;
     while i < m {
         io::write_all(STDOUT_FILENO, b" | ");
-        show_answer(bars::check_gap_info(prices, n, i));
+        show_answer(bars::gap_among(prices, n, i));
         i += 1;
     }
     io::write_all(STDOUT_FILENO, b"\n");

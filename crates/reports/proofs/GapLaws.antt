@@ -24,7 +24,6 @@ use Rattle.question4.proofs.Question4Passed.{is-sound}
 use Rattle.sound.proofs.SoundFacts.{sound-fit}
 use Rattle.reports.specs.declared.gaps.GapInfo.{GapInfo}
 use Rattle.reports.specs.declared.gaps.GapsAnswer.{GapsAnswer}
-use Rattle.reports.specs.Code.GapSteps.{countIf}
 use Rattle.reports.specs.GapAnswers.{keptPrices, noGap, pairGiven, pairBy, gapReport, ListedAt, GapsAnswered, gapsAnswered, gapsFit, gapsBy, gapsReport}
 
 -- the rows of the kept raw bars are there
@@ -80,19 +79,14 @@ pair-listed s m i r e f =
 
 -- ---- all pairs
 
-pub count-no : (q n : ℕ) → 0 < q → 0 ≡ countIf q n
-unfolding countIf
-count-no zero n h = absurd (omega arith)
-count-no (suc q) n h = refl
-
-pub count-yes : (q n : ℕ) → q ≤ 0 → n - 1 ≡ countIf q n
-unfolding countIf
-count-yes zero n h = refl
-count-yes (suc q) n h = absurd (omega arith)
-
 pub gaps-no : (s : Stand) (m : Stores) (d : GapColumns) → question4 s m ≡ false → gapsAnswered (record { failed = 4; count = 0 }) d ≡ gapsReport s m d
 unfolding gapsReport gapsBy
 gaps-no s m d e = ap (λ (t : Bool). gapsBy t (gapsFit d (gapsOf (keptPrices s m))) (gapsOf (keptPrices s m)) d) (sym e)
+
+-- how many pairs of n bars are listed, by the listing's number
+countIf : ℕ → ℕ → ℕ
+countIf zero n = n - 1
+countIf (suc q) n = 0
 
 -- what the code says of a listing
 told : ℕ → GapsListed → GapsAnswered
@@ -118,11 +112,23 @@ told-all ps n d h =
     ∙ told-if (leb (n - 1) (length (d .kinds))) (leb (n - 1) (length (d .values))) (leb (n - 1) (length (d .covered))) ps n d e
     ∙ ap (λ (j : ℕ). gapsBy true (fit j) gs d) (sym e)
 
-pub gaps-yes : (s : Stand) (m : Stores) (d d' : GapColumns) (q n : ℕ) → question4 s m ≡ true → gapsListed q d' ≡ listGaps (m .raw .prices) (s .raw) d → n ≡ countIf q (s .raw)
-    → gapsAnswered (record { failed = q; count = n }) d' ≡ gapsReport s m d
-unfolding gapsReport keptPrices told
-gaps-yes s m d d' q n e w k =
-    (λ i. gapsAnswered (record { failed = q; count = k i }) d')
-    ∙ ap (told (s .raw)) w
-    ∙ told-all (m .raw .prices) (s .raw) d (rows-there s m e)
-    ∙ ap (λ (t : Bool). gapsBy t (gapsFit d (gapsOf (keptPrices s m))) (gapsOf (keptPrices s m)) d) (sym e)
+module _ (s : Stand) (m : Stores) (d d' : GapColumns) where
+  told-is : (q : ℕ) → question4 s m ≡ true → gapsListed q d' ≡ listGaps (m .raw .prices) (s .raw) d → told (s .raw) (gapsListed q d') ≡ gapsReport s m d
+  unfolding gapsReport keptPrices
+  told-is q e w =
+      ap (told (s .raw)) w
+      ∙ told-all (m .raw .prices) (s .raw) d (rows-there s m e)
+      ∙ ap (λ (t : Bool). gapsBy t (gapsFit d (gapsOf (keptPrices s m))) (gapsOf (keptPrices s m)) d) (sym e)
+
+  -- refused, and listed
+  pub gaps-refused : (q : ℕ) → 0 < q → question4 s m ≡ true → gapsListed q d' ≡ listGaps (m .raw .prices) (s .raw) d
+      → gapsAnswered (record { failed = q; count = 0 }) d' ≡ gapsReport s m d
+  unfolding told countIf
+  gaps-refused zero h e w = absurd (omega arith)
+  gaps-refused (suc q) h e w = told-is (suc q) e w
+
+  pub gaps-yes : (q n : ℕ) → q ≤ 0 → question4 s m ≡ true → gapsListed q d' ≡ listGaps (m .raw .prices) (s .raw) d → n ≡ s .raw - 1
+      → gapsAnswered (record { failed = 0; count = n }) d' ≡ gapsReport s m d
+  unfolding told countIf
+  gaps-yes zero n h e w k = (λ i. gapsAnswered (record { failed = 0; count = k i }) d') ∙ told-is 0 e w
+  gaps-yes (suc q) n h e w k = absurd (omega arith)

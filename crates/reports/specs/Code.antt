@@ -3,7 +3,6 @@ pub mod SeekFractals
 pub mod FxListing
 pub mod FxTurns
 pub mod FxRows
-pub mod GapSteps
 pub mod InnerRawSteps
 pub mod ListSteps
 pub mod MeasuredRows

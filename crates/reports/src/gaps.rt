@@ -4,7 +4,6 @@ ghost use mathlib.Core.Path.{_≡_};
 ghost use Rattle.bars.specs.Gaps.{gapColumns};
 ghost use Rattle.strokes.specs.Lent.{before};
 ghost use Rattle.reports.specs.GapAnswers.{keptPrices, noGap, pairGiven, gapReport, ListedAt, gapsAnswered, gapsReport};
-ghost use Rattle.reports.specs.Code.GapSteps.{countIf};
 use bars::Gap;
 use bars::GapAnswer;
 use strokes::Stand;
@@ -83,24 +82,11 @@ pub fn check_gap_info(
     ) {
         return refused_gap(4);
     }
-    let a = bars::check_gap_info(rp, n, place);
+    let a = bars::gap_among(rp, n, place);
     given_pair(a)
 }
 
 // ---- all pairs
-
-// How many pairs n bars have, where none of the questions was answered with a no.
-fn count_if(failed: u64, n: usize) -> usize
-    ensures { λ r. ⌜ r ≡ countIf failed n ⌝ }
-{
-    if failed > 0 {
-        return 0;
-    }
-    if n == 0 {
-        return 0;
-    }
-    n - 1
-}
 
 // Oldest first, into lent columns: which kind of gap, its edges and ratio, whether it was covered. Question 14 asks whether
 // each column has a place for each pair; where it has not, nothing is written.
@@ -151,7 +137,10 @@ pub fn check_gaps(
             count: 0,
         };
     }
-    let failed = bars::check_gaps(rp, n, kinds, values, covered);
-    let count = count_if(failed, n);
-    GapsAnswer { failed, count }
+    let failed = bars::list_gaps(rp, n, kinds, values, covered);
+    if failed > 0 {
+        return GapsAnswer { failed, count: 0 };
+    }
+    let count = bars::pairs(n);
+    GapsAnswer { failed: 0, count }
 }

@@ -18,8 +18,8 @@ write-all-requires c κs = search needs
 returns : tie.Need-returns Inv-loop μ-loop
 returns c = search needs
 
-check-gap-info-requires : tie.Need-check-gap-info-requires Inv-loop μ-loop
-check-gap-info-requires c κs = search needs
+gap-among-requires : tie.Need-gap-among-requires Inv-loop μ-loop
+gap-among-requires c κs = search needs
 
 show-answer-requires : tie.Need-show-answer-requires Inv-loop μ-loop
 show-answer-requires c κs = search needs
@@ -36,8 +36,8 @@ slice-aggregate-write-all-2 c = search needs
 write-all-requires-2 : tie.Need-write-all-requires-2 Inv-loop μ-loop
 write-all-requires-2 c κs = search needs
 
-check-gap-info-requires-2 : tie.Need-check-gap-info-requires-2 Inv-loop μ-loop
-check-gap-info-requires-2 c κs = search needs
+gap-among-requires-2 : tie.Need-gap-among-requires-2 Inv-loop μ-loop
+gap-among-requires-2 c κs = search needs
 
 show-answer-requires-2 : tie.Need-show-answer-requires-2 Inv-loop μ-loop
 show-answer-requires-2 c κs = search needs
@@ -69,13 +69,13 @@ show-gaps-spec =
     slice-aggregate-write-all
     write-all-requires
     returns
-    check-gap-info-requires
+    gap-among-requires
     show-answer-requires
     sub-m
     loop-holds
     slice-aggregate-write-all-2
     write-all-requires-2
-    check-gap-info-requires-2
+    gap-among-requires-2
     show-answer-requires-2
     add-i
     loop-less

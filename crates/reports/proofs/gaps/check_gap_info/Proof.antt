@@ -15,15 +15,15 @@ refused-gap-requires c κs = search needs
 returns : tie.Need-returns
 returns c = let e = pair-no _ _ _ _ (sym (c .before .before .is-sound .ensures) ∙ not-true _ (c .before .if1 .taken)) (c .refused-gap .ensures) in (e, pair-listed _ _ _ _ e)
 
-check-gap-info-requires : tie.Need-check-gap-info-requires
-check-gap-info-requires c κs = search needs
+gap-among-requires : tie.Need-gap-among-requires
+gap-among-requires c κs = search needs
 
 given-pair-requires : tie.Need-given-pair-requires
 given-pair-requires c κs = search needs
 
 returns-2 : tie.Need-returns-2
 unfolding storesOf
-returns-2 c = let e = pair-yes _ _ _ _ _ (sym (c .before .before .before .is-sound .ensures) ∙ not-false _ (c .before .before .if1 .left)) (c .before .check-gap-info .ensures) (c .given-pair .ensures) in (e, pair-listed _ _ _ _ e)
+returns-2 c = let e = pair-yes _ _ _ _ _ (sym (c .before .before .before .is-sound .ensures) ∙ not-false _ (c .before .before .if1 .left)) (c .before .gap-among .ensures) (c .given-pair .ensures) in (e, pair-listed _ _ _ _ e)
 
 pub check-gap-info-spec : {M : Type 1} → statement M
 check-gap-info-spec =
@@ -32,6 +32,6 @@ check-gap-info-spec =
     is-sound-requires
     refused-gap-requires
     returns
-    check-gap-info-requires
+    gap-among-requires
     given-pair-requires
     returns-2)

@@ -1,7 +1,7 @@
 use Rattle.bars.proofs.GapPairs.{among-short, among-none, among-pair}
 use borrow.Author.Needs.{needs}
-use Rattle.bars.proofs.gaps.check_gap_info.Statement.{statement}
-use Rattle.bars.proofs.gaps.check_gap_info.Tie as tie
+use Rattle.bars.proofs.gaps.gap_among.Statement.{statement}
+use Rattle.bars.proofs.gaps.gap_among.Tie as tie
 
 returns : tie.Need-returns
 returns c = among-short _ _ _ (search needs)
@@ -21,6 +21,6 @@ gap-of-pair-requires c κs = search needs
 returns-4 : tie.Need-returns-4
 returns-4 c = let s = c .before .before .before .before .args in among-pair (s .prices .now) (s .n) (s .i) _ (search needs) (search needs) (c .gap-of-pair .ensures)
 
-pub check-gap-info-spec : {M : Type 1} → statement M
-check-gap-info-spec =
+pub gap-among-spec : {M : Type 1} → statement M
+gap-among-spec =
     tie.close (tie.spec returns returns-2 returns-3 add-gap-of-pair gap-of-pair-requires returns-4)

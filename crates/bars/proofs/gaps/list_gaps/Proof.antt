@@ -3,8 +3,8 @@ use mathlib.Core.Path.{_≡_, _∙_, sym, ap}
 use Rattle.bars.proofs.GapPairs.{listed-4, listed-14-kinds, listed-14-values, listed-14-covered, listed-0}
 use Rattle.bars.specs.Gaps.{gapColumns}
 use borrow.Author.Needs.{needs}
-use Rattle.bars.proofs.gaps.check_gaps.Statement.{statement}
-use Rattle.bars.proofs.gaps.check_gaps.Tie as tie
+use Rattle.bars.proofs.gaps.list_gaps.Statement.{statement}
+use Rattle.bars.proofs.gaps.list_gaps.Tie as tie
 
 returns : tie.Need-returns
 returns c = let s = c .before .before .before .args in let ps = s .prices .now in let t = gapColumns (s .kinds .now) (s .values .now) (s .covered .now) in listed-4 ps (s .n) t (search needs)
@@ -36,8 +36,8 @@ same-length-3 c = search needs
 returns-5 : tie.Need-returns-5
 returns-5 c = let s = c .before .before .before .before .before .before .before .before .before .before .before .before .before .before .before .before .args in let ps = s .prices .now in let t = gapColumns (s .kinds .now) (s .values .now) (s .covered .now) in let w = c .before .before .before .before .before .write-gaps .ensures in listed-0 ps (s .n) t (search needs) _ (search needs) (search needs) (search needs) (rw (c .before .before .before .before .before .before .before .before .before .before .before .before .pairs .ensures) at w)
 
-pub check-gaps-spec : {M : Type 1} → statement M
-check-gaps-spec =
+pub list-gaps-spec : {M : Type 1} → statement M
+list-gaps-spec =
     tie.close
     (tie.spec
     returns
