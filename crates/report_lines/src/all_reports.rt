@@ -3,7 +3,6 @@ use crate::text;
 use bar_lines::flag;
 use bar_lines::space;
 use bar_lines::spaced_float;
-use bars::Gap;
 use libc::STDOUT_FILENO;
 use reports::FractalAnswers;
 use reports::Measures;
@@ -984,28 +983,39 @@ fn finished_zones(
     );
 }
 
-fn gap_edges(low: f64, high: f64, ratio: f64, covered: bool) {
-    spaced_float(low);
-    spaced_float(high);
-    spaced_float(ratio);
+// A gap as the listing has it: 0 is none, 1 up, 2 down; then its edges and its ratio.
+fn gap_line(kind: u64, values: [f64; 3], covered: bool) {
+    if kind == 0 {
+        io::write_all(STDOUT_FILENO, b"gap none\n");
+        return;
+    }
+    if kind == 1 {
+        io::write_all(STDOUT_FILENO, b"gap up");
+    } else {
+        io::write_all(STDOUT_FILENO, b"gap down");
+    }
+    spaced_float(values[0]);
+    spaced_float(values[1]);
+    spaced_float(values[2]);
     space();
     flag(covered);
     text::line_end();
 }
 
-fn gap_line(g: Gap) {
-    match g {
-        Gap::NoGap => {
-            io::write_all(STDOUT_FILENO, b"gap none\n");
+fn gap_lines(kinds: &[u64], values: &[[f64; 3]], covered: &[bool], n: usize) {
+    let mut i: usize = 0;
+    while i < n {
+        if kinds.len() <= i {
+            return;
         }
-        Gap::Up(low, high, ratio, covered) => {
-            io::write_all(STDOUT_FILENO, b"gap up");
-            gap_edges(low, high, ratio, covered);
+        if values.len() <= i {
+            return;
         }
-        Gap::Down(low, high, ratio, covered) => {
-            io::write_all(STDOUT_FILENO, b"gap down");
-            gap_edges(low, high, ratio, covered);
+        if covered.len() <= i {
+            return;
         }
+        gap_line(kinds[i], values[i], covered[i]);
+        i += 1;
     }
 }
 
@@ -1028,34 +1038,31 @@ fn gaps(
     fs: &[[i64; 6]],
     fp: &[[f64; 18]],
 ) {
-    let mut i: usize = 0;
-    while i < 65536 {
-        let a = reports::check_gap_info(
-            stand,
-            rt,
-            ri,
-            rp,
-            ut,
-            ui,
-            up,
-            uc,
-            ue,
-            st,
-            si,
-            sp,
-            sc,
-            se,
-            fs,
-            fp,
-            i,
-        );
-        if a.failed > 0 {
-            return;
-        }
-        let g = a.gap;
-        gap_line(g);
-        i += 1;
-    }
+    let mut kinds = [0u64; 4096];
+    let mut values = [[0f64; 3]; 4096];
+    let mut covered = [false; 4096];
+    let r = reports::check_gaps(
+        stand,
+        rt,
+        ri,
+        rp,
+        ut,
+        ui,
+        up,
+        uc,
+        ue,
+        st,
+        si,
+        sp,
+        sc,
+        se,
+        fs,
+        fp,
+        &mut kinds,
+        &mut values,
+        &mut covered,
+    );
+    gap_lines(&kinds, &values, &covered, r.count);
 }
 
 // The fractals of the unfinished bars.
