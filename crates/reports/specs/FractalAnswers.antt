@@ -56,8 +56,8 @@ unfoldable pub powerLabel : Fractal → Char
 unfolding closesBeyond
 powerLabel f = cond (closesBeyond f (f .left)) "强" (cond (closesBeyond f (f .mid)) "中" "弱")
 
--- s is the strength of f. Its label is fx.rs'. Its number is 2 where the third bar closes beyond the first; and where no close is beyond the first bar but not the
--- second, it is how many of the two the third closes beyond.
+-- s is the strength of f. Its label is fx.rs'. Its number is 2 where the third bar closes beyond the first, and unless that is the only one it is how many of
+-- the first two bars the third closes beyond.
 pub record IsStrength (f : Fractal) (s : Strength) : Type 0 where
   pub label : labelOf s ≡ powerLabel f
   pub first : T (closesBeyond f (f .left)) → strengthNumber s ≡ 2
