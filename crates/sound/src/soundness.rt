@@ -267,10 +267,7 @@ fn stamps_in_time(t: &[i64]) -> bool
     requires { ⌜ 3 ≤ length (now t) ⌝ }
     ensures { λ r. ⌜ r ≡ stampsPass (now (t .entry)) ⌝ }
 {
-    both(
-        is_in_time(t, 0),
-        both(is_in_time(t, 1), is_in_time(t, 2)),
-    )
+    both(is_in_time(t, 0), both(is_in_time(t, 1), is_in_time(t, 2)))
 }
 
 fn stamps_pass(fs: &[[i64; 6]]) -> bool

@@ -162,8 +162,7 @@ returns-2 : tie.Need-returns-2
 returns-2 c =
     let n = c .before in
     let o = n .before .before in
-    let a = start o .args in
-    (
+    let a = start o .args in (
       handed-back _ _ (c .handed-back2 .ensures) (feed-4 (a .self .stand) (lent (start o)) (a .b) (n .refused .result) (n .refused .ensures) (sym (o .is-sound .ensures) ∙ n .before .if1 .left)),
       port-demand3,
     )
