@@ -5,10 +5,11 @@ use bar_lines::Read;
 use bar_lines::space;
 use bars::Bar;
 use feed::Czsc;
-use feed::FeedAnswer;
+use feed::Updated;
 use libc::STDOUT_FILENO;
 use report_lines::line_end;
 use report_lines::refusal;
+use sound::FreshAnswer;
 use strokes::Rooms;
 use strokes::Stand;
 
@@ -19,14 +20,27 @@ pub struct Player {
     pub lines: u64,
 }
 
-pub fn nobody() -> Player {
-    let rooms = Rooms {
+fn no_rooms() -> Rooms {
+    Rooms {
         raw: 0,
         unfinished: 0,
         strokes: 0,
+    }
+}
+
+// No analyzer yet: nothing reads the stand before `ready`.
+pub fn nobody() -> Player {
+    let rooms = no_rooms();
+    let stand = Stand {
+        minimum: 0,
+        most: 0,
+        rooms,
+        raw: 0,
+        unfinished: 0,
+        strokes: 0,
+        bars: [0; 65],
+        fractals: [0; 65],
     };
-    let none = sound::fresh(0, 0, rooms);
-    let stand = none.stand;
     Player {
         stand,
         ready: false,
@@ -71,27 +85,42 @@ fn count_at(line: &[u8], at: usize) -> Count {
     Count::At(from_zero(n), next)
 }
 
-// Whether the program's stores are as long.
-fn holds(rooms: Rooms) -> bool {
-    if 4096 < rooms.raw {
+// Whether the lent stores are as long as asked for. The program's own may be shorter.
+fn holds(lent: Rooms, asked: Rooms) -> bool {
+    if lent.raw < asked.raw {
         return false;
     }
-    if 1024 < rooms.unfinished {
+    if lent.unfinished < asked.unfinished {
         return false;
     }
-    rooms.strokes <= 2048
+    asked.strokes <= lent.strokes
 }
 
-// `n`: a refused one, or one of longer stores, leaves the analyzer that was there.
-fn start(p: Player, minimum: usize, most: usize, rooms: Rooms) -> Player {
-    let r = sound::fresh(minimum, most, rooms);
+// Whether a store asked for is longer than question 3 lets through.
+fn is_beyond(asked: Rooms) -> bool {
+    if 65536 < asked.raw {
+        return true;
+    }
+    if 65536 < asked.unfinished {
+        return true;
+    }
+    65536 < asked.strokes
+}
+
+// The answer to `n`, by what the fresh analyzer over the lent stores answered. These are no longer than the program's own, so that it has seen no length that is too
+// large for question 3: that part is asked here. A refused one, or one of longer stores than the program's, leaves the analyzer that was there.
+fn started(p: Player, asked: Rooms, r: FreshAnswer) -> Player {
     if r.refused > 0 {
         refusal(r.refused);
         return p;
     }
-    if holds(rooms) {
+    if is_beyond(asked) {
+        refusal(3);
+        return p;
+    }
+    let stand = r.stand;
+    if holds(stand.rooms, asked) {
         io::write_all(STDOUT_FILENO, b"ok\n");
-        let stand = r.stand;
         return Player {
             stand,
             ready: true,
@@ -102,43 +131,10 @@ fn start(p: Player, minimum: usize, most: usize, rooms: Rooms) -> Player {
     p
 }
 
-fn start_in(p: Player, line: &[u8], at: usize) -> Player {
-    let Count::At(minimum, a) = count_at(line, at) else {
-        return bad(p);
-    };
-    let Count::At(most, b) = count_at(line, a) else {
-        return bad(p);
-    };
-    let Count::At(raw, c) = count_at(line, b) else {
-        return bad(p);
-    };
-    let Count::At(unfinished, d) = count_at(line, c) else {
-        return bad(p);
-    };
-    let Count::At(strokes, e) = count_at(line, d) else {
-        return bad(p);
-    };
-    if e < line.len() {
-        return bad(p);
-    }
-    let rooms = Rooms {
-        raw,
-        unfinished,
-        strokes,
-    };
-    start(p, minimum, most, rooms)
-}
-
-fn start_line(p: Player, whole: &[u8], len: usize) -> Player {
-    if whole.len() < len {
-        return bad(p);
-    }
-    start_in(p, &whole[..len], 2)
-}
-
 // What a feed answered: `ok MADE BROKEN SHED`, or `no K`.
-fn fed(p: Player, r: FeedAnswer) -> Player {
-    let stand = r.stand;
+fn fed(p: Player, r: Updated) -> Player {
+    let czsc = r.czsc;
+    let stand = czsc.stand;
     let next = Player {
         stand,
         ready: p.ready,
@@ -169,14 +165,29 @@ fn only_bar(line: &[u8], at: usize) -> Read {
     Read::At(b, end)
 }
 
-// Which call a line is: 1 a fresh analyzer, 2 a feed of the bar, 3 the stand, 4 the reports, 5 a line to pass over, 0 none of these.
+// Which call a line is: 1 a fresh analyzer with these settings and rooms, 2 a feed of the bar, 3 the stand, 4 the reports, 5 a line to pass over, 0 none of
+// these.
 struct Call {
     pub kind: u8,
     pub bar: Bar,
+    pub minimum: usize,
+    pub most: usize,
+    pub rooms: Rooms,
 }
 
-fn plain_call(kind: u8) -> Call {
-    let bar = Bar {
+fn bar_call(kind: u8, bar: Bar) -> Call {
+    let rooms = no_rooms();
+    Call {
+        kind,
+        bar,
+        minimum: 0,
+        most: 0,
+        rooms,
+    }
+}
+
+fn no_bar() -> Bar {
+    Bar {
         time: 0,
         id: 0,
         open: 0.0,
@@ -185,15 +196,52 @@ fn plain_call(kind: u8) -> Call {
         low: 0.0,
         vol: 0.0,
         amount: 0.0,
-    };
-    Call { kind, bar }
+    }
+}
+
+fn plain_call(kind: u8) -> Call {
+    bar_call(kind, no_bar())
 }
 
 fn feed_call(line: &[u8], at: usize) -> Call {
     let Read::At(bar, e) = only_bar(line, at) else {
         return plain_call(0);
     };
-    Call { kind: 2, bar }
+    bar_call(2, bar)
+}
+
+fn start_call(line: &[u8], at: usize) -> Call {
+    let Count::At(minimum, a) = count_at(line, at) else {
+        return plain_call(0);
+    };
+    let Count::At(most, b) = count_at(line, a) else {
+        return plain_call(0);
+    };
+    let Count::At(raw, c) = count_at(line, b) else {
+        return plain_call(0);
+    };
+    let Count::At(unfinished, d) = count_at(line, c) else {
+        return plain_call(0);
+    };
+    let Count::At(strokes, e) = count_at(line, d) else {
+        return plain_call(0);
+    };
+    if e < line.len() {
+        return plain_call(0);
+    }
+    let rooms = Rooms {
+        raw,
+        unfinished,
+        strokes,
+    };
+    let bar = no_bar();
+    Call {
+        kind: 1,
+        bar,
+        minimum,
+        most,
+        rooms,
+    }
 }
 
 // A space with no field behind it.
@@ -221,7 +269,7 @@ fn call_in(line: &[u8], long: bool) -> Call {
     let end = lines::word_end(line, 0);
     let word = &line[..end];
     if lines::is_word(word, b"n") {
-        return plain_call(1);
+        return start_call(line, end + 1);
     }
     if lines::is_word(word, b"b") {
         return feed_call(line, end + 1);
@@ -254,31 +302,32 @@ fn counted(p: Player) -> Player {
     }
 }
 
-// The answer to `b`, `d` or `r`, of kinds 2, 3 and 4, over the stores of the analyzer's own lengths.
-fn play(
+// The answer to `n`, `d` or `r`, of kinds 1, 3 and 4: these leave the stores as they are.
+fn answer(
     p: Player,
-    kind: u8,
-    bar: Bar,
-    rt: &mut [i64],
-    ri: &mut [i32],
-    rp: &mut [[f64; 6]],
-    ut: &mut [i64],
-    ui: &mut [i32],
-    up: &mut [[f64; 6]],
-    uc: &mut [usize],
-    ue: &mut [[i64; 101]],
-    st: &mut [i64],
-    si: &mut [i32],
-    sp: &mut [[f64; 6]],
-    sc: &mut [usize],
-    se: &mut [[i64; 101]],
-    fs: &mut [[i64; 6]],
-    fp: &mut [[f64; 18]],
+    call: Call,
+    rt: &[i64],
+    ri: &[i32],
+    rp: &[[f64; 6]],
+    ut: &[i64],
+    ui: &[i32],
+    up: &[[f64; 6]],
+    uc: &[usize],
+    ue: &[[i64; 101]],
+    st: &[i64],
+    si: &[i32],
+    sp: &[[f64; 6]],
+    sc: &[usize],
+    se: &[[i64; 101]],
+    fs: &[[i64; 6]],
+    fp: &[[f64; 18]],
 ) -> Player {
-    let stand = p.stand;
-    if kind == 2 {
-        let czsc = Czsc { stand };
-        let r = czsc.update_bar(
+    let kind = call.kind;
+    if kind == 1 {
+        let rooms = call.rooms;
+        let r = sound::fresh(
+            call.minimum,
+            call.most,
             rt,
             ri,
             rp,
@@ -294,10 +343,10 @@ fn play(
             se,
             fs,
             fp,
-            bar,
         );
-        return fed(p, r);
+        return started(p, rooms, r);
     }
+    let stand = p.stand;
     if kind == 3 {
         report_lines::stand_lines(
             stand,
@@ -340,6 +389,89 @@ fn play(
     p
 }
 
+// The answer to a call, over stores of the lengths that rooms_of says.
+fn play(
+    p: Player,
+    call: Call,
+    rt: &mut [i64],
+    ri: &mut [i32],
+    rp: &mut [[f64; 6]],
+    ut: &mut [i64],
+    ui: &mut [i32],
+    up: &mut [[f64; 6]],
+    uc: &mut [usize],
+    ue: &mut [[i64; 101]],
+    st: &mut [i64],
+    si: &mut [i32],
+    sp: &mut [[f64; 6]],
+    sc: &mut [usize],
+    se: &mut [[i64; 101]],
+    fs: &mut [[i64; 6]],
+    fp: &mut [[f64; 18]],
+) -> Player {
+    let kind = call.kind;
+    if kind == 2 {
+        let stand = p.stand;
+        let czsc = Czsc { stand };
+        let bar = call.bar;
+        let r = czsc.update_bar(
+            rt,
+            ri,
+            rp,
+            ut,
+            ui,
+            up,
+            uc,
+            ue,
+            st,
+            si,
+            sp,
+            sc,
+            se,
+            fs,
+            fp,
+            bar,
+        );
+        return fed(p, r);
+    }
+    answer(
+        p,
+        call,
+        rt,
+        ri,
+        rp,
+        ut,
+        ui,
+        up,
+        uc,
+        ue,
+        st,
+        si,
+        sp,
+        sc,
+        se,
+        fs,
+        fp,
+    )
+}
+
+// Before any accepted `n` there is no stand, so that only an `n` is answered.
+fn is_early(p: Player, call: Call) -> bool {
+    if call.kind == 1 {
+        return false;
+    }
+    !p.ready
+}
+
+// How much of the program's stores a call is lent: as much as an `n` asks for, and otherwise as much as the analyzer was made for.
+fn rooms_of(p: Player, call: Call) -> Rooms {
+    if call.kind == 1 {
+        return call.rooms;
+    }
+    let stand = p.stand;
+    stand.rooms
+}
+
 // The length of a part: n, and where a column has fewer places, all of them.
 fn at_most(n: usize, most: usize) -> usize
     ensures { λ r. ⌜ r ≤ most ⌝ }
@@ -350,7 +482,7 @@ fn at_most(n: usize, most: usize) -> usize
     n
 }
 
-// The answer to a line; before any accepted `n` there is no stand. Of the program's stores an analyzer is lent as much as it was made for.
+// The answer to a line.
 pub fn reply(
     before: Player,
     line: &[u8],
@@ -373,24 +505,19 @@ pub fn reply(
     fp: &mut [[f64; 18]],
 ) -> Player {
     let p = counted(before);
-    let asked = call_of(line, len, long);
-    let kind = asked.kind;
+    let call = call_of(line, len, long);
+    let kind = call.kind;
     if kind == 0 {
         return bad(p);
-    }
-    if kind == 1 {
-        return start_line(p, line, len);
     }
     if kind == 5 {
         return p;
     }
-    if !p.ready {
+    if is_early(p, call) {
         refusal(4);
         return p;
     }
-    let bar = asked.bar;
-    let stand = p.stand;
-    let rooms = stand.rooms;
+    let rooms = rooms_of(p, call);
     let n0 = at_most(rooms.raw, rt.len());
     let n1 = at_most(rooms.raw, ri.len());
     let n2 = at_most(rooms.raw, rp.len());
@@ -408,8 +535,7 @@ pub fn reply(
     let n14 = at_most(rooms.strokes, fp.len());
     play(
         p,
-        kind,
-        bar,
+        call,
         &mut rt[..n0],
         &mut ri[..n1],
         &mut rp[..n2],

@@ -46,8 +46,11 @@ slice-aggregate-is-word c = search needs
 is-word-requires : tie.Need-is-word-requires
 is-word-requires c κs = search needs
 
-plain-call-requires-5 : tie.Need-plain-call-requires-5
-plain-call-requires-5 c κs = search needs
+add-start-call : tie.Need-add-start-call
+add-start-call c = search needs
+
+start-call-requires : tie.Need-start-call-requires
+start-call-requires c κs = search needs
 
 returns-5 : tie.Need-returns-5
 returns-5 c = search needs
@@ -73,8 +76,8 @@ slice-aggregate-is-word-3 c = search needs
 is-word-requires-3 : tie.Need-is-word-requires-3
 is-word-requires-3 c κs = search needs
 
-plain-call-requires-6 : tie.Need-plain-call-requires-6
-plain-call-requires-6 c κs = search needs
+plain-call-requires-5 : tie.Need-plain-call-requires-5
+plain-call-requires-5 c κs = search needs
 
 returns-7 : tie.Need-returns-7
 returns-7 c = search needs
@@ -85,14 +88,14 @@ slice-aggregate-is-word-4 c = search needs
 is-word-requires-4 : tie.Need-is-word-requires-4
 is-word-requires-4 c κs = search needs
 
-plain-call-requires-7 : tie.Need-plain-call-requires-7
-plain-call-requires-7 c κs = search needs
+plain-call-requires-6 : tie.Need-plain-call-requires-6
+plain-call-requires-6 c κs = search needs
 
 returns-8 : tie.Need-returns-8
 returns-8 c = search needs
 
-plain-call-requires-8 : tie.Need-plain-call-requires-8
-plain-call-requires-8 c κs = search needs
+plain-call-requires-7 : tie.Need-plain-call-requires-7
+plain-call-requires-7 c κs = search needs
 
 returns-9 : tie.Need-returns-9
 returns-9 c = search needs
@@ -115,7 +118,8 @@ call-in-spec =
     slice-aggregate-word
     slice-aggregate-is-word
     is-word-requires
-    plain-call-requires-5
+    add-start-call
+    start-call-requires
     returns-5
     slice-aggregate-is-word-2
     is-word-requires-2
@@ -124,11 +128,11 @@ call-in-spec =
     returns-6
     slice-aggregate-is-word-3
     is-word-requires-3
-    plain-call-requires-6
+    plain-call-requires-5
     returns-7
     slice-aggregate-is-word-4
     is-word-requires-4
-    plain-call-requires-7
+    plain-call-requires-6
     returns-8
-    plain-call-requires-8
+    plain-call-requires-7
     returns-9)

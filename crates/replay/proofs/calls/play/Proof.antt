@@ -57,8 +57,8 @@ same-length-15 c = c .before .fp .given
 returns : tie.Need-returns
 returns c = search needs
 
-stand-lines-requires : tie.Need-stand-lines-requires
-stand-lines-requires c κs = search needs
+answer-requires : tie.Need-answer-requires
+answer-requires c κs = search needs
 
 same-length-16 : tie.Need-same-length-16
 same-length-16 c = refl
@@ -108,57 +108,6 @@ same-length-30 c = refl
 returns-2 : tie.Need-returns-2
 returns-2 c = search needs
 
-report-requires : tie.Need-report-requires
-report-requires c κs = search needs
-
-same-length-31 : tie.Need-same-length-31
-same-length-31 c = refl
-
-same-length-32 : tie.Need-same-length-32
-same-length-32 c = refl
-
-same-length-33 : tie.Need-same-length-33
-same-length-33 c = refl
-
-same-length-34 : tie.Need-same-length-34
-same-length-34 c = refl
-
-same-length-35 : tie.Need-same-length-35
-same-length-35 c = refl
-
-same-length-36 : tie.Need-same-length-36
-same-length-36 c = refl
-
-same-length-37 : tie.Need-same-length-37
-same-length-37 c = refl
-
-same-length-38 : tie.Need-same-length-38
-same-length-38 c = refl
-
-same-length-39 : tie.Need-same-length-39
-same-length-39 c = refl
-
-same-length-40 : tie.Need-same-length-40
-same-length-40 c = refl
-
-same-length-41 : tie.Need-same-length-41
-same-length-41 c = refl
-
-same-length-42 : tie.Need-same-length-42
-same-length-42 c = refl
-
-same-length-43 : tie.Need-same-length-43
-same-length-43 c = refl
-
-same-length-44 : tie.Need-same-length-44
-same-length-44 c = refl
-
-same-length-45 : tie.Need-same-length-45
-same-length-45 c = refl
-
-returns-3 : tie.Need-returns-3
-returns-3 c = search needs
-
 pub play-spec : {M : Type 1} → statement M
 play-spec =
     tie.close
@@ -181,7 +130,7 @@ play-spec =
     same-length-14
     same-length-15
     returns
-    stand-lines-requires
+    answer-requires
     same-length-16
     same-length-17
     same-length-18
@@ -197,21 +146,4 @@ play-spec =
     same-length-28
     same-length-29
     same-length-30
-    returns-2
-    report-requires
-    same-length-31
-    same-length-32
-    same-length-33
-    same-length-34
-    same-length-35
-    same-length-36
-    same-length-37
-    same-length-38
-    same-length-39
-    same-length-40
-    same-length-41
-    same-length-42
-    same-length-43
-    same-length-44
-    same-length-45
-    returns-3)
+    returns-2)

@@ -16,20 +16,20 @@ bad-requires c κs = search needs
 returns : tie.Need-returns
 returns c = search needs
 
-start-line-requires : tie.Need-start-line-requires
-start-line-requires c κs = search needs
-
 returns-2 : tie.Need-returns-2
 returns-2 c = search needs
 
-returns-3 : tie.Need-returns-3
-returns-3 c = search needs
+is-early-requires : tie.Need-is-early-requires
+is-early-requires c κs = search needs
 
 refusal-requires : tie.Need-refusal-requires
 refusal-requires c κs = search needs
 
-returns-4 : tie.Need-returns-4
-returns-4 c = search needs
+returns-3 : tie.Need-returns-3
+returns-3 c = search needs
+
+rooms-of-requires : tie.Need-rooms-of-requires
+rooms-of-requires c κs = search needs
 
 at-most-requires : tie.Need-at-most-requires
 at-most-requires c κs = search needs
@@ -214,8 +214,8 @@ same-length-14 c = c .before .fs .given .1
 same-length-15 : tie.Need-same-length-15
 same-length-15 c = c .fp .given .1
 
-returns-5 : tie.Need-returns-5
-returns-5 c = search needs
+returns-4 : tie.Need-returns-4
+returns-4 c = search needs
 
 pub reply-spec : {M : Type 1} → statement M
 reply-spec =
@@ -225,11 +225,11 @@ reply-spec =
     call-of-requires
     bad-requires
     returns
-    start-line-requires
     returns-2
-    returns-3
+    is-early-requires
     refusal-requires
-    returns-4
+    returns-3
+    rooms-of-requires
     at-most-requires
     at-most-requires-2
     at-most-requires-3
@@ -291,4 +291,4 @@ reply-spec =
     same-length-13
     same-length-14
     same-length-15
-    returns-5)
+    returns-4)
