@@ -19,7 +19,7 @@ use Rattle.check_bi.specs.declared.scan.Scan.{Scan}
 use Rattle.check_bi.specs.declared.scan.FoundBi.{FoundBi}
 use Rattle.machine.specs.Fractals.{sameMark, beyond}
 use Rattle.machine.specs.Strokes.{bestIf}
-use Rattle.check_bi.specs.Code.Scan.{valueOf, candidateOf, cutWith, closesIf, closesOf, uptoIf, uptoWith, putIf, putOf, openedOf, takeIf, takeOf, fxAt, topOf, bottomOf, stepIf, stepOf, Small, holdsOf, blank, barsTo, foundIf, foundOf}
+use Rattle.check_bi.specs.Code.Scan.{valueOf, candidateOf, cutWith, closesIf, closesOf, uptoIf, uptoWith, putIf, putOf, openedOf, takeIf, takeOf, fxAt, topOf, bottomOf, fractalOf, markIf, otherOf, stepIf, stepOf, Small, holdsOf, blank, barsTo, foundIf, foundOf}
 
 pub candidate-same : (s f : Fx) → sameMark (s .mark) (f .mark) ≡ true → false ≡ candidateOf s f
 unfolding candidateOf
@@ -134,17 +134,68 @@ step-by : (t u : Bool) (s : Scan) (i : ℕ) (a b c : Candle) → topOf a b c ≡
 unfolding stepOf
 step-by t u s i a b c h k = sym (λ j. stepIf (h j) (k j) s i b)
 
-pub step-top : (s : Scan) (i : ℕ) (a b c : Candle) (f : Fx) (r : Scan) → topOf a b c ≡ true → f ≡ fxAt i G b → r ≡ takeOf s f → r ≡ stepOf s i a b c
-unfolding stepIf
-step-top s i a b c f r h e k = k ∙ ap (takeOf s) e ∙ step-by true (bottomOf a b c) s i a b c h refl
+taken-by : (t u : Bool) (s : Scan) (i : ℕ) (b : Candle) → (t || u) ≡ true → takeOf s (fxAt i (markIf t) b) ≡ stepIf t u s i b
+unfolding stepIf markIf
+taken-by true u s i b h = refl
+taken-by false true s i b h = refl
+taken-by false false s i b h = let y : _≡_ {A = ℕ} 0 1 = cc in absurd (omega arith)
 
-pub step-bottom : (s : Scan) (i : ℕ) (a b c : Candle) (f : Fx) (r : Scan) → topOf a b c ≡ false → bottomOf a b c ≡ true → f ≡ fxAt i D b → r ≡ takeOf s f → r ≡ stepOf s i a b c
-unfolding stepIf
-step-bottom s i a b c f r h g e k = k ∙ ap (takeOf s) e ∙ step-by false true s i a b c h g
+pub step-taken : (s : Scan) (i : ℕ) (a b c : Candle) (m : Mark) (f : Fx) (r : Scan) → fractalOf a b c ≡ true → m ≡ markIf (topOf a b c) → f ≡ fxAt i m b → r ≡ takeOf s f
+    → r ≡ stepOf s i a b c
+unfolding fractalOf
+step-taken s i a b c m f r h e g k =
+    k ∙ ap (takeOf s) (g ∙ ap (λ (z : Mark). fxAt i z b) e) ∙ taken-by (topOf a b c) (bottomOf a b c) s i b h ∙ step-by (topOf a b c) (bottomOf a b c) s i a b c refl refl
 
-pub step-none : (s : Scan) (i : ℕ) (a b c : Candle) → topOf a b c ≡ false → bottomOf a b c ≡ false → s ≡ stepOf s i a b c
+none-by : (t u : Bool) (s : Scan) (i : ℕ) (b : Candle) → (t || u) ≡ false → s ≡ stepIf t u s i b
 unfolding stepIf
-step-none s i a b c h g = step-by false false s i a b c h g
+none-by true u s i b h = let y : _≡_ {A = ℕ} 0 1 = cc in absurd (omega arith)
+none-by false true s i b h = let y : _≡_ {A = ℕ} 0 1 = cc in absurd (omega arith)
+none-by false false s i b h = refl
+
+pub step-none : (s : Scan) (i : ℕ) (a b c : Candle) → fractalOf a b c ≡ false → s ≡ stepOf s i a b c
+unfolding fractalOf
+step-none s i a b c h = none-by (topOf a b c) (bottomOf a b c) s i b h ∙ step-by (topOf a b c) (bottomOf a b c) s i a b c refl refl
+
+-- a window that is no fractal of the other mark than the last one taken is passed over
+after-bottom : (u : Bool) (s : Scan) (i : ℕ) (b : Candle) → s .last ≡ D → (s .count ≡ 0 → ⊥) → s ≡ stepIf false u s i b
+unfolding stepIf fxAt sameMark
+after-bottom true s i b h n = take-same s (fxAt i D b) n (ap (λ (z : Mark). sameMark z D) h)
+after-bottom false s i b h n = refl
+
+after-top : (t : Bool) (s : Scan) (i : ℕ) (b : Candle) → s .last ≡ G → (s .count ≡ 0 → ⊥) → s ≡ stepIf t false s i b
+unfolding stepIf fxAt sameMark
+after-top true s i b h n = take-same s (fxAt i G b) n (ap (λ (z : Mark). sameMark z G) h)
+after-top false s i b h n = refl
+
+pub step-same : (k : Mark) (s : Scan) (i : ℕ) (a b c : Candle) → s .last ≡ k → (s .count ≡ 0 → ⊥) → otherOf k a b c ≡ false → s ≡ stepOf s i a b c
+unfolding otherOf
+step-same D s i a b c h n e = after-bottom (bottomOf a b c) s i b h n ∙ step-by false (bottomOf a b c) s i a b c e refl
+step-same G s i a b c h n e = after-top (topOf a b c) s i b h n ∙ step-by (topOf a b c) false s i a b c refl e
+
+-- once a fractal was seen, one is taken
+put-count : (t : Bool) (s : Scan) (f : Fx) → (putIf t s f) .count ≡ s .count + 1
+unfolding putIf
+put-count true s f = refl
+put-count false s f = refl
+
+take-some : (t m : Bool) (s : Scan) (f : Fx) → eqb (s .count) 0 ≡ t → (takeIf t m s f) .count ≡ 0 → ⊥
+unfolding takeIf openedOf putOf
+take-some true m s f h e = omega arith
+take-some false true s f h e =
+    let q = eq-eqb (s .count) 0 e in
+    let y : _≡_ {A = ℕ} 0 1 = cc in
+    omega arith
+take-some false false s f h e = let q = put-count (closesOf s f) s f in omega arith
+
+some-by : (t u : Bool) (s : Scan) (i : ℕ) (b : Candle) → (t || u) ≡ true → (stepIf t u s i b) .count ≡ 0 → ⊥
+unfolding stepIf takeOf fxAt
+some-by true u s i b h e = take-some (eqb (s .count) 0) (sameMark (s .last) G) s (fxAt i G b) refl e
+some-by false true s i b h e = take-some (eqb (s .count) 0) (sameMark (s .last) D) s (fxAt i D b) refl e
+some-by false false s i b h e = let y : _≡_ {A = ℕ} 0 1 = cc in omega arith
+
+pub step-some : (s r : Scan) (i : ℕ) (a b c : Candle) → fractalOf a b c ≡ true → r ≡ stepOf s i a b c → r .count ≡ 0 → ⊥
+unfolding fractalOf stepOf
+step-some s r i a b c h e k = some-by (topOf a b c) (bottomOf a b c) s i b h (sym (ap (λ (z : Scan). z .count) e) ∙ k)
 
 pub small-at : (s : Scan) (i : ℕ) (m : Mark) (b : Candle) (f : Fx) → f ≡ fxAt i m b → Small s i → Small s (f .place)
 unfolding fxAt

@@ -1,7 +1,7 @@
 // check_fx of the source: three neighbouring merged bars are a top, a bottom or neither.
 ghost use mathlib.Core.Path.{_≡_};
 ghost use Rattle.machine.specs.Fractals.{sameMark, beyond};
-ghost use Rattle.check_bi.specs.Code.Scan.{fxAt, valueOf, topOf, bottomOf};
+ghost use Rattle.check_bi.specs.Code.Scan.{fxAt, valueOf, topOf, bottomOf, fractalOf, markIf, otherOf};
 use machine::Mark;
 
 // Of a merged bar, what fractals and strokes are found by.
@@ -80,6 +80,35 @@ pub fn is_bottom(a: Candle, b: Candle, c: Candle) -> bool
         }
     }
     false
+}
+
+pub fn is_fractal(a: Candle, b: Candle, c: Candle) -> bool
+    ensures { λ r. ⌜ r ≡ fractalOf a b c ⌝ }
+{
+    if is_top(a, b, c) {
+        return true;
+    }
+    is_bottom(a, b, c)
+}
+
+// The mark of a fractal.
+pub fn fractal_mark(a: Candle, b: Candle, c: Candle) -> Mark
+    ensures { λ r. ⌜ r ≡ markIf (topOf a b c) ⌝ }
+{
+    if is_top(a, b, c) {
+        return Mark::G;
+    }
+    Mark::D
+}
+
+// Whether a fractal of the other mark than m.
+pub fn is_other(m: Mark, a: Candle, b: Candle, c: Candle) -> bool
+    ensures { λ r. ⌜ r ≡ otherOf m a b c ⌝ }
+{
+    match m {
+        Mark::D => is_top(a, b, c),
+        Mark::G => is_bottom(a, b, c),
+    }
 }
 
 pub fn fx_at(i: usize, m: Mark, b: Candle) -> Fx

@@ -7,13 +7,14 @@ ghost use lib.ListN.{length, getD, drop};
 ghost use lib.IntN.{pos};
 ghost use Rattle.check_bi.specs.Code.Scan.{candidateOf, cutWith, closesOf, uptoWith, putOf, noFx, blank, openedOf, takeOf, stepOf, Small, scanOf, holdsOf, foundIf, foundOf, foundFrom, FoundFits};
 ghost use Rattle.check_bi.specs.Code.View.{view, candleFrom, candles};
-ghost use Rattle.check_bi.specs.Code.Windows.{rowAt, fractalAt, NextFractal};
+ghost use Rattle.check_bi.specs.Code.Windows.{rowAt, fractalAt, otherAt, NextWindow};
 use super::check_fx::Candle;
 use super::check_fx::Fx;
+use super::check_fx::fractal_mark;
 use super::check_fx::fx_at;
 use super::check_fx::is_beyond;
-use super::check_fx::is_bottom;
-use super::check_fx::is_top;
+use super::check_fx::is_fractal;
+use super::check_fx::is_other;
 use super::check_fx::same_mark;
 use super::check_fx::value;
 use machine::Mark;
@@ -209,13 +210,8 @@ fn step(s: Scan, i: usize, a: Candle, b: Candle, c: Candle) -> Scan
     requires { ⌜ Small s i ⌝ }
     ensures { λ r. ⌜ r ≡ stepOf s i a b c ⌝ }
 {
-    if is_top(a, b, c) {
-        let m = Mark::G;
-        let f = fx_at(i, m, b);
-        return take(s, f);
-    }
-    if is_bottom(a, b, c) {
-        let m = Mark::D;
+    if is_fractal(a, b, c) {
+        let m = fractal_mark(a, b, c);
         let f = fx_at(i, m, b);
         return take(s, f);
     }
@@ -282,28 +278,52 @@ fn row_at(ps: &[[f64; 6]], i: usize) -> Candle
 }
 
 // Whether the window at row i is a top or a bottom.
-fn is_fractal(ps: &[[f64; 6]], i: usize) -> bool
+fn fractal_at(ps: &[[f64; 6]], i: usize) -> bool
     requires { ⌜ (i + 2 < length (now ps)) × (i < 4294967296) ⌝ }
     ensures { λ r. ⌜ r ≡ fractalAt (now (ps .entry)) i ⌝ }
 {
     let a = row_at(ps, i);
     let b = row_at(ps, i + 1);
     let c = row_at(ps, i + 2);
-    if is_top(a, b, c) {
-        return true;
-    }
-    is_bottom(a, b, c)
+    is_fractal(a, b, c)
 }
 
-// The first window of the first n rows, from row i on, that is a top or a bottom. Most windows are neither, and the scan,
-// which is large, is not moved for them.
+// The first window of the first n rows, from row i on, that is a top or a bottom.
 fn next_fractal(ps: &[[f64; 6]], n: usize, i: usize) -> usize
     requires { ⌜ (n ≤ length (now ps)) × (n < 4294967296) × (i < 4294967296) ⌝ }
-    ensures { λ r. ⌜ NextFractal (now (ps .entry)) n i r ⌝ }
+    ensures { λ r. ⌜ NextWindow (fractalAt (now (ps .entry))) n i r ⌝ }
 {
     let mut j = i;
     while j + 2 < n {
-        if is_fractal(ps, j) {
+        if fractal_at(ps, j) {
+            return j;
+        } else {
+            j += 1;
+        }
+    }
+    j
+}
+
+// Whether the window at row i is a fractal of the other mark than k.
+fn other_at(ps: &[[f64; 6]], k: Mark, i: usize) -> bool
+    requires { ⌜ (i + 2 < length (now ps)) × (i < 4294967296) ⌝ }
+    ensures { λ r. ⌜ r ≡ otherAt (now (ps .entry)) k i ⌝ }
+{
+    let a = row_at(ps, i);
+    let b = row_at(ps, i + 1);
+    let c = row_at(ps, i + 2);
+    is_other(k, a, b, c)
+}
+
+// The first window of the first n rows, from row i on, that is a fractal of the other mark than k. The scan, which is large, is not
+// moved for the others.
+fn next_other(ps: &[[f64; 6]], k: Mark, n: usize, i: usize) -> usize
+    requires { ⌜ (n ≤ length (now ps)) × (n < 4294967296) × (i < 4294967296) ⌝ }
+    ensures { λ r. ⌜ NextWindow (otherAt (now (ps .entry)) k) n i r ⌝ }
+{
+    let mut j = i;
+    while j + 2 < n {
+        if other_at(ps, k, j) {
             return j;
         } else {
             j += 1;
@@ -337,7 +357,8 @@ pub fn scan_from(
         let b = candle_at(ts, ps, us, qs, n, m, at + 1);
         let c = candle_at(ts, ps, us, qs, n, m, at + 2);
         s = step(s, at - lo, a, b, c);
-        at = next_fractal(ps, n, at + 1);
+        let k = s.last;
+        at = next_other(ps, k, n, at + 1);
     }
     s
 }

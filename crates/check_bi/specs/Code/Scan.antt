@@ -51,6 +51,21 @@ unfoldable pub bottomOf : Candle → Candle → Candle → Bool
 unfolding lt
 bottomOf a b c = (lt (b .low) (a .low) && lt (b .low) (c .low)) && (lt (b .high) (a .high) && lt (b .high) (c .high))
 
+unfoldable pub fractalOf : Candle → Candle → Candle → Bool
+unfolding topOf bottomOf
+fractalOf a b c = topOf a b c || bottomOf a b c
+
+-- a fractal's mark, by whether it is a top
+unfoldable pub markIf : Bool → Mark
+markIf true = G
+markIf false = D
+
+-- whether it is a fractal of the other mark than m
+unfoldable pub otherOf : Mark → Candle → Candle → Candle → Bool
+unfolding topOf bottomOf
+otherOf D a b c = topOf a b c
+otherOf G a b c = bottomOf a b c
+
 -- ---- a fractal that is taken
 
 -- it has the other mark than the start, a later time, and is strictly beyond it

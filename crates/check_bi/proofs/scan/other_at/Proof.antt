@@ -1,0 +1,28 @@
+use Rattle.check_bi.proofs.ScanWindows.{other-is}
+use borrow.Author.Needs.{needs}
+use Rattle.check_bi.proofs.scan.other_at.Statement.{statement}
+use Rattle.check_bi.proofs.scan.other_at.Tie as tie
+
+row-at-requires : tie.Need-row-at-requires
+row-at-requires c κs = search needs
+
+add-row-at : tie.Need-add-row-at
+add-row-at c = search needs
+
+row-at-requires-2 : tie.Need-row-at-requires-2
+row-at-requires-2 c κs = search needs
+
+add-row-at-2 : tie.Need-add-row-at-2
+add-row-at-2 c = search needs
+
+row-at-requires-3 : tie.Need-row-at-requires-3
+row-at-requires-3 c κs = search needs
+
+is-other-requires : tie.Need-is-other-requires
+is-other-requires c κs = search needs
+
+returns : tie.Need-returns
+returns c = let a = c .before .before .before .before .args in other-is (a .ps .now) (a .i) _ _ _ (c .before .before .before .row-at .ensures) (c .before .before .row-at2 .ensures) (c .before .row-at3 .ensures) _ (a .k) (c .is-other .ensures)
+
+pub other-at-spec : {M : Type 1} → statement M
+other-at-spec = tie.close (tie.spec row-at-requires add-row-at row-at-requires-2 add-row-at-2 row-at-requires-3 is-other-requires returns)
