@@ -1,6 +1,7 @@
 pub mod TailMerging
 pub mod Columns
 pub mod InUse
+pub mod RowElements
 pub mod Searching
 pub mod KeptBars
 pub mod AgainBound

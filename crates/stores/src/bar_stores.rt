@@ -2,10 +2,13 @@
 // a row: what stands at it in every column. What a function is not said to change stays as it was,
 // also beyond the count of the bars that are kept.
 ghost use mathlib.Core.Path.{_≡_};
+ghost use mathlib.Core.List.{[]};
 ghost use Prim.Native.Nat.{_+_, _≤_};
-ghost use lib.ListN.{length, take};
+ghost use lib.ListN.{length, take, getD};
 ghost use lib.Dec.{T};
-ghost use Rattle.stores.specs.Code.StoreRows.{RoomRaw, RoomMerged, barAt, newBarAt, setBar, setNewBar, copiedRaw, copiedMerged, MovedToStart, rising, placeOf};
+ghost use Rattle.stores.specs.Code.StoreRows.{RoomRaw, RoomMerged, barAt, newBarAt, setBar, copiedRaw, copiedMerged, MovedToStart, BarWritten, rising, placeOf};
+ghost use Rattle.stores.specs.Stores.{withFirst};
+ghost use Rattle.bars.specs.Code.MergedBars.{withElement};
 ghost use Rattle.stores.specs.Lent.{rawHeld, rawBefore, rawAfter, mergedHeld, mergedBefore, mergedAfter};
 use super::rows;
 use bars::Bar;
@@ -65,24 +68,24 @@ pub fn read_new_bar(
     }
 }
 
-pub fn write_new_bar(
+// The bar b at a place, with the first `count` elements of those that stand there, of which the first 100 stay, and then one of
+// this time: of the row of elements one place is written. With a count of 0 the bar has that element alone.
+pub fn write_with_element(
     times: &mut [i64],
     ids: &mut [i32],
     prices: &mut [[f64; 6]],
     counts: &mut [usize],
     elements: &mut [[i64; 101]],
     at: usize,
-    k: NewBar,
+    b: Bar,
+    count: usize,
+    time: i64,
 )
     requires { ⌜ RoomMerged (mergedHeld times ids prices counts elements) (at + 1) ⌝ }
-    ensures { λ _. ⌜ mergedAfter times ids prices counts elements ≡ setNewBar (mergedBefore times ids prices counts elements) at k ⌝ }
+    ensures { λ _. ⌜ BarWritten (mergedBefore times ids prices counts elements) at (withElement b (withFirst b count (getD (now (elements .entry)) at [])) time) (mergedAfter times ids prices counts elements) ⌝ }
 {
-    let b = k.bar;
-    let count = k.count;
-    let row = k.elements;
     write_bar(times, ids, prices, at, b);
-    counts[at] = count;
-    elements[at] = row;
+    rows::put_element(counts, elements, at, count, time);
 }
 
 // ---- runs of bars. In a copy from one store to another, ts, is, ps, cs, es are the columns of the other.

@@ -14,5 +14,5 @@ pub use bar_stores::move_new_bars_up;
 pub use bar_stores::read_bar;
 pub use bar_stores::read_new_bar;
 pub use bar_stores::write_bar;
-pub use bar_stores::write_new_bar;
+pub use bar_stores::write_with_element;
 pub use tails::merge_into_tail;

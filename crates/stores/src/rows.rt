@@ -1,11 +1,11 @@
 // Rows of one column copied or moved: a function of each kind for each column. All of them say `copied`,
 // of the rows or of what is in use of them.
 ghost use mathlib.Core.Path.{_≡_};
-ghost use mathlib.Core.List.{[]};
+ghost use mathlib.Core.List.{[], _∷_, _++_};
 ghost use Prim.Native.Nat.{_+_, _≤_, _<_, min};
 ghost use lib.ListN.{length, take, getD, set};
 ghost use Rattle.bars.specs.Lists.{copied};
-ghost use Rattle.stores.specs.Code.StoreRows.{inUse};
+ghost use Rattle.stores.specs.Code.StoreRows.{inUse, RowWritten};
 
 // ---- the first n rows of another slice to the beginning of this one
 
@@ -211,6 +211,24 @@ pub fn down_in_use(cs: &mut [usize], es: &mut [[i64; 101]], from: usize, n: usiz
         copy_in_use(es, from + i, i, count);
         i += 1;
     }
+}
+
+// ---- one more element in a row, where the row lies
+
+// `time` behind the first `count` elements of the row at `at`, of which the first 100 stay (document 01). No other
+// row changes.
+pub fn put_element(cs: &mut [usize], es: &mut [[i64; 101]], at: usize, count: usize, time: i64)
+    requires { ⌜ (at < length (now cs)) × (at < length (now es)) ⌝ }
+    ensures { λ _. ⌜ RowWritten (now (cs .entry)) (now (es .entry)) at (take 100 (take count (getD (now (es .entry)) at [])) ++ time ∷ []) (now (cs .exit)) (now (es .exit)) ⌝ }
+{
+    let used = in_row(&es[at], count);
+    if used < 100 {
+        es[at][used] = time;
+        cs[at] = used + 1;
+        return;
+    }
+    es[at][100] = time;
+    cs[at] = 101;
 }
 
 // ---- n rows from place `from` up to place `at`, the last row first

@@ -9,10 +9,10 @@ use lib.ListN.{length, take, drop, set}
 use lib.Seq.{take-take, take-suc-set}
 use lib.Dec.{T, leb, le→leb}
 use lib.Ieee.Fits.{and-i, and-l, and-r}
-use Rattle.bars.specs.declared.NewBar.{NewBar}
+use Rattle.bars.specs.Bars.{Merged}
 use Rattle.bars.specs.Lists.{copied, every}
 use Rattle.stores.specs.Stores.{MergedStore}
-use Rattle.stores.specs.Code.StoreRows.{SizedMerged, setNewBar, copiedMerged}
+use Rattle.stores.specs.Code.StoreRows.{SizedMerged, BarWritten, setNewBar, copiedMerged}
 use Rattle.bars.proofs.Moves.{take-copied, run-is}
 use Rattle.strokes.specs.declared.Stand.{Stand}
 use Rattle.strokes.specs.StateRead.{elementsSized}
@@ -62,16 +62,17 @@ unfolding elementsSized
 stay-fewer m k n h t = every-fewer (λ k. leb k 101) k n (m .counts) h t
 
 -- a bar written behind the first n
-pub stay-put : (m w : MergedStore) (n room : ℕ) (k : NewBar) → SizedMerged m room → n < room → k .count ≤ 101 → w ≡ setNewBar m n k → StaySized n m (n + 1) w
+pub stay-put : (m w : MergedStore) (n room : ℕ) (k : Merged) → SizedMerged m room → n < room → BarWritten m n k w → StaySized n m (n + 1) w
 unfolding elementsSized setNewBar
-stay-put m w n room k h c few e t =
-    subst (λ (x : MergedStore). T (elementsSized (n + 1) x)) (sym e) (every-put (λ k. leb k 101) n (m .counts) (k .count) (rw (h .counts) c) (le→leb (k .count) 101 few) t)
+stay-put m w n room k h c d t =
+    let a = d .bar in
+    subst (λ (x : MergedStore). T (elementsSized (n + 1) x)) (sym (d .store)) (every-put (λ k. leb k 101) n (m .counts) (a .count) (rw (h .counts) c) (le→leb (a .count) 101 (d .few)) t)
 
 -- a bar written over the last
-pub stay-last : (m w : MergedStore) (n room : ℕ) (k : NewBar) → SizedMerged m room → 1 ≤ n → n ≤ room → k .count ≤ 101 → w ≡ setNewBar m (n - 1) k → StaySized n m n w
-stay-last m w n room k h one c few e t =
+pub stay-last : (m w : MergedStore) (n room : ℕ) (k : Merged) → SizedMerged m room → 1 ≤ n → n ≤ room → BarWritten m (n - 1) k w → StaySized n m n w
+stay-last m w n room k h one c d t =
     let g : n - 1 + 1 ≡ n = omega arith in
-    subst (λ (i : ℕ). T (elementsSized i w)) g (stay-put m w (n - 1) room k h (omega arith) few e (stay-fewer m (n - 1) n (omega arith) t))
+    subst (λ (i : ℕ). T (elementsSized i w)) g (stay-put m w (n - 1) room k h (omega arith) d (stay-fewer m (n - 1) n (omega arith) t))
 
 -- the first j go
 pub stay-moved : (m w : MergedStore) (j n room : ℕ) → SizedMerged m room → j ≤ n → n ≤ room → w .counts ≡ copied (m .counts) 0 (m .counts) j (n - j) → StaySized n m (n - j) w

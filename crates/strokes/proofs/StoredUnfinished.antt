@@ -11,13 +11,13 @@ use lib.Seq.{length-take-le, take-all, take-add, take-suc, take-append-add, drop
 use lib.IntN.{ℤ, pos}
 use lib.Ieee.{Float}
 use Rattle.bars.specs.declared.Bar.{Bar}
-use Rattle.bars.specs.declared.NewBar.{NewBar}
 use Rattle.bars.specs.Bars.{Merged, mergedOf, own}
 use Rattle.bars.specs.Lists.{last, init, copied}
 use Rattle.bars.specs.Merging.{mergeIn, removeInclude}
-use Rattle.bars.specs.Code.MergedBars.{removeIncludeAfter, inPlaceOf}
-use Rattle.stores.specs.Stores.{MergedStore, mergedStore, rawPart, barOf, mergedBars}
-use Rattle.stores.specs.Code.StoreRows.{SizedMerged, RoomMerged, barAt, newBarAt, setNewBar, copiedRaw, copiedMerged, placeOf}
+use Rattle.bars.specs.Code.MergedBars.{removeIncludeBar, removeIncludeAfter, inPlaceOf, withElement}
+use Rattle.bars.proofs.Including.{included-elements, included-own}
+use Rattle.stores.specs.Stores.{MergedStore, mergedStore, rawPart, barOf, withFirst, mergedBars}
+use Rattle.stores.specs.Code.StoreRows.{SizedMerged, RoomMerged, BarWritten, barAt, newBarAt, setNewBar, copiedRaw, copiedMerged, placeOf}
 use Rattle.bars.proofs.Moves.{take-copied, run-is}
 use Rattle.stores.proofs.Columns.{merged-length, merged-at, merged-copied, merged-appended, merged-bars, raw-times, sized-merged-set, sized-merged-copied}
 use Rattle.strokes.specs.declared.Stand.{Stand}
@@ -116,63 +116,81 @@ few-room s m b h a =
     let f = length-append (take n (mergedBars m)) (own b ∷ []) in
     omega arith
 
-module _ (s r : Stand) (m w : MergedStore) (h : SizedMerged m (s .rooms .unfinished)) (b : Bar) (k : NewBar) where
-  pub own-put : s .unfinished < 2 → s .unfinished < s .rooms .unfinished → mergedOf k ≡ own b → w ≡ setNewBar m (s .unfinished) k → r ≡ withUnfinished s (s .unfinished + 1)
+-- a bar that is written with one element, and that its own, is a bar of its own
+pub own-written : (m w : MergedStore) (at : ℕ) (b : Bar) (row : List ℤ) (t : ℤ) → t ≡ b .time → BarWritten m at (withElement b (withFirst b 0 row) t) w → BarWritten m at (own b) w
+unfolding own withElement withFirst
+own-written m w at b row t e d =
+    record { bar = d .bar; store = d .store; reads = d .reads ∙ ap (λ (u : ℤ). record { bar = b; elements = u ∷ [] }) e; few = d .few }
+
+module _ (s r : Stand) (m w : MergedStore) (h : SizedMerged m (s .rooms .unfinished)) (b : Bar) where
+  -- b stands behind the unfinished bars
+  put-behind : s .unfinished < s .rooms .unfinished → keptUnfinished s m ++ own b ∷ [] ≡ mergeIn (keptUnfinished s m) b → BarWritten m (s .unfinished) (own b) w → r ≡ withUnfinished s (s .unfinished + 1)
       → HasUnfinished s r w (mergeIn (keptUnfinished s m) b)
-  own-put a c q f e =
+  put-behind c q d e =
       let n = s .unfinished in
       let K = s .rooms .unfinished in
-      let g : length (take n (mergedBars m)) ≡ n = length-take-le n (mergedBars m) (rw (merged-length m K h) (omega arith)) in
-      has-unfinished s r w (setNewBar m n k) (n + 1) (mergeIn (keptUnfinished s m) b) e f (sized-merged-set m n K k h) (omega arith)
-      (merged-appended m n K k h c ∙ ap (λ (x : Merged). take n (mergedBars m) ++ x ∷ []) q ∙ merge-few (take n (mergedBars m)) b (rw g a))
+      has-unfinished s r w (setNewBar m n (d .bar)) (n + 1) (mergeIn (keptUnfinished s m) b) e (d .store) (sized-merged-set m n K (d .bar) h) (omega arith)
+      (merged-appended m n K (d .bar) h c ∙ ap (λ (x : Merged). take n (mergedBars m) ++ x ∷ []) (d .reads) ∙ q)
 
-  module _ (high : Float) (k2 : NewBar) (x : Bool) (two : 2 ≤ s .unfinished) (fits : s .unfinished ≤ s .rooms .unfinished)
-      (high-is : high ≡ (barAt (rawPart m) (s .unfinished - 2)) .high) (k2-is : k2 ≡ newBarAt m (s .unfinished - 1))
-      (found : inPlaceOf (mergedOf k2) x (mergedOf k) ≡ removeIncludeAfter high (mergedOf k2) b) where
+  pub own-put : s .unfinished < 2 → s .unfinished < s .rooms .unfinished → BarWritten m (s .unfinished) (own b) w → r ≡ withUnfinished s (s .unfinished + 1)
+      → HasUnfinished s r w (mergeIn (keptUnfinished s m) b)
+  own-put a c d e =
+      let n = s .unfinished in
+      let g : length (take n (mergedBars m)) ≡ n = length-take-le n (mergedBars m) (rw (merged-length m (s .rooms .unfinished) h) (omega arith)) in
+      put-behind c (merge-few (take n (mergedBars m)) b (rw g a)) d e
+
+  module _ (k1 k2 k : Bar) (x : Bool) (two : 2 ≤ s .unfinished) (fits : s .unfinished ≤ s .rooms .unfinished)
+      (k1-is : k1 ≡ barAt (rawPart m) (s .unfinished - 2)) (k2-is : k2 ≡ barAt (rawPart m) (s .unfinished - 1))
+      (found : inPlaceOf k2 x k ≡ removeIncludeBar (k1 .high) k2 b) where
     z : Merged
-    z = mergedOf k2
+    z = mergedOf (newBarAt m (s .unfinished - 1))
 
-    k2-there : z ≡ getD (mergedBars m) (s .unfinished - 1) z
+    last-there : getD (mergedBars m) (s .unfinished - 1) z ≡ z
     unfolding z
-    k2-there = ap mergedOf k2-is ∙ sym (merged-at m (s .unfinished - 1) z (room-of m (s .rooms .unfinished) (s .unfinished - 1 + 1) h (omega arith)))
+    last-there = merged-at m (s .unfinished - 1) z (room-of m (s .rooms .unfinished) (s .unfinished - 1 + 1) h (omega arith))
 
-    found-there : inPlaceOf z x (mergedOf k) ≡ removeInclude (getD (mergedBars m) (s .unfinished - 2) z) (getD (mergedBars m) (s .unfinished - 1) z) b
-    unfolding z removeInclude removeIncludeAfter mergedOf newBarAt
-    found-there =
+    -- of the bar before the last, merging asks the high
+    there : removeIncludeAfter (k1 .high) z b ≡ removeInclude (getD (mergedBars m) (s .unfinished - 2) z) (getD (mergedBars m) (s .unfinished - 1) z) b
+    unfolding removeInclude removeIncludeAfter mergedOf newBarAt
+    there =
         let p = merged-at m (s .unfinished - 2) z (room-of m (s .rooms .unfinished) (s .unfinished - 2 + 1) h (omega arith)) in
-        found ∙ (λ i. removeIncludeAfter ((high-is ∙ ap (λ (y : Merged). y .bar .high) (sym p)) i) (k2-there i) b)
+        λ i. removeIncludeAfter ((ap (λ (y : Bar). y .high) k1-is ∙ ap (λ (y : Merged). y .bar .high) (sym p)) i) (sym last-there i) b
 
-    pub merged-put : x ≡ true → w ≡ setNewBar m (s .unfinished - 1) k → r ≡ withUnfinished s (s .unfinished) → HasUnfinished s r w (mergeIn (keptUnfinished s m) b)
-    unfolding inPlaceOf
-    merged-put y f e =
+    found-there : inPlaceOf (z .bar) x k ≡ removeIncludeBar (k1 .high) (z .bar) b
+    unfolding z mergedOf newBarAt
+    found-there = subst (λ (y : Bar). inPlaceOf y x k ≡ removeIncludeBar (k1 .high) y b) k2-is found
+
+    pub merged-put : (t : ℤ) → t ≡ b .time → x ≡ true
+        → BarWritten m (s .unfinished - 1) (withElement k (withFirst k (getD (m .counts) (s .unfinished - 1) 0) (getD (m .elements) (s .unfinished - 1) [])) t) w
+        → r ≡ withUnfinished s (s .unfinished)
+        → HasUnfinished s r w (mergeIn (keptUnfinished s m) b)
+    unfolding inPlaceOf z mergedOf newBarAt withElement withFirst
+    merged-put t q y d e =
         let n = s .unfinished in
         let K = s .rooms .unfinished in
-        let v = setNewBar m (n - 1) k in
+        let v = setNewBar m (n - 1) (d .bar) in
         let g : n - 1 + 1 ≡ n = omega arith in
-        has-unfinished s r w v n (mergeIn (keptUnfinished s m) b) e f (sized-merged-set m (n - 1) K k h) fits
+        let reads : mergedOf (d .bar) ≡ withElement k z (b .time) = d .reads ∙ ap (withElement k z) q in
+        has-unfinished s r w v n (mergeIn (keptUnfinished s m) b) e (d .store) (sized-merged-set m (n - 1) K (d .bar) h) fits
         (ap (λ (j : ℕ). take j (mergedBars v)) (sym g)
-        ∙ merged-appended m (n - 1) K k h (omega arith)
-        ∙ last-merged (mergedBars m) n z b two (rw (merged-length m K h) fits) (mergedOf k) (ap (λ (u : Bool). inPlaceOf z u (mergedOf k)) (sym y) ∙ found-there))
+        ∙ merged-appended m (n - 1) K (d .bar) h (omega arith)
+        ∙ last-merged (mergedBars m) n z b two (rw (merged-length m K h) fits) (mergedOf (d .bar)) (included-elements z b (k1 .high) k x y found-there (mergedOf (d .bar)) reads ∙ there))
 
-    put-apart : x ≡ false → keptUnfinished s m ++ mergedOf k ∷ [] ≡ mergeIn (keptUnfinished s m) b
+    put-apart : x ≡ false → keptUnfinished s m ++ own b ∷ [] ≡ mergeIn (keptUnfinished s m) b
     unfolding inPlaceOf
     put-apart y =
-        last-apart (mergedBars m) (s .unfinished) z b two (rw (merged-length m (s .rooms .unfinished) h) fits) (mergedOf k)
-        (ap (λ (u : Merged). u ∷ mergedOf k ∷ []) (sym k2-there) ∙ ap (λ (u : Bool). inPlaceOf z u (mergedOf k)) (sym y) ∙ found-there)
+        last-apart (mergedBars m) (s .unfinished) z b two (rw (merged-length m (s .rooms .unfinished) h) fits) (own b)
+        (ap (λ (u : Merged). u ∷ own b ∷ []) last-there ∙ included-own z b (k1 .high) k x y found-there (own b) refl ∙ there)
 
     pub apart-room : x ≡ false → length (mergeIn (keptUnfinished s m) b) ≤ s .rooms .unfinished → s .unfinished < s .rooms .unfinished
     apart-room y a =
         let g = length-take-le (s .unfinished) (mergedBars m) (rw (merged-length m (s .rooms .unfinished) h) fits) in
         let e = ap length (put-apart y) in
-        let f = length-append (keptUnfinished s m) (mergedOf k ∷ []) in
+        let f = length-append (keptUnfinished s m) (own b ∷ []) in
         omega arith
 
-    pub apart-put : x ≡ false → s .unfinished < s .rooms .unfinished → w ≡ setNewBar m (s .unfinished) k → r ≡ withUnfinished s (s .unfinished + 1) → HasUnfinished s r w (mergeIn (keptUnfinished s m) b)
-    apart-put y c f e =
-        let n = s .unfinished in
-        let K = s .rooms .unfinished in
-        has-unfinished s r w (setNewBar m n k) (n + 1) (mergeIn (keptUnfinished s m) b) e f (sized-merged-set m n K k h) (omega arith)
-        (merged-appended m n K k h c ∙ put-apart y)
+    pub apart-put : x ≡ false → s .unfinished < s .rooms .unfinished → BarWritten m (s .unfinished) (own b) w → r ≡ withUnfinished s (s .unfinished + 1) → HasUnfinished s r w (mergeIn (keptUnfinished s m) b)
+    apart-put y c d e = put-behind c (put-apart y) d e
 
 -- ---- the break
 

@@ -110,7 +110,8 @@ impl Stand {
         stand
     }
 
-    // A bar that passed its questions is merged into the unfinished bars.
+    // A bar that passed its questions is merged into the unfinished bars. Where it is merged with the last of them, that bar's elements stay
+    // where they are, and one is put behind them.
     pub fn put_merged(
         self,
         ut: &mut [i64],
@@ -124,22 +125,23 @@ impl Stand {
         ensures { λ r. ⌜ (HasUnfinished self r (mergedAfter ut ui up uc ue) (mergeIn (keptUnfinished self (mergedBefore ut ui up uc ue)) b)) × (StaySized (self .unfinished) (mergedBefore ut ui up uc ue) (r .unfinished) (mergedAfter ut ui up uc ue)) ⌝ }
     {
         let n = self.unfinished;
+        let time = b.time;
         let mut stand = self;
         if n < 2 {
-            let own = bars::new_from_raw(b);
-            stores::write_new_bar(ut, ui, up, uc, ue, n, own);
+            stores::write_with_element(ut, ui, up, uc, ue, n, b, 0, time);
             stand.unfinished = n + 1;
             return stand;
         }
+        let last = n - 1;
         let k1 = stores::read_bar(ut, ui, up, n - 2);
-        let k2 = stores::read_new_bar(ut, ui, up, uc, ue, n - 1);
-        let found = bars::remove_include(k1.high, k2, b);
-        let k = found.bar;
+        let k2 = stores::read_bar(ut, ui, up, last);
+        let found = bars::remove_include_bar(k1.high, k2, b);
         if found.merged {
-            stores::write_new_bar(ut, ui, up, uc, ue, n - 1, k);
+            let count = uc[last];
+            stores::write_with_element(ut, ui, up, uc, ue, last, found.bar, count, time);
             return stand;
         }
-        stores::write_new_bar(ut, ui, up, uc, ue, n, k);
+        stores::write_with_element(ut, ui, up, uc, ue, n, b, 0, time);
         stand.unfinished = n + 1;
         stand
     }

@@ -8,7 +8,7 @@ use lib.IntN.{ℤ, pos}
 use lib.Signed.{ltZ}
 use Rattle.bars.specs.declared.Bar.{Bar}
 use Rattle.bars.specs.declared.NewBar.{NewBar}
-use Rattle.bars.specs.Bars.{rowOf}
+use Rattle.bars.specs.Bars.{Merged, mergedOf, rowOf}
 use Rattle.bars.specs.Lists.{copied}
 use Rattle.stores.specs.Stores.{RawStore, rawStore, MergedStore, mergedStore, rawPart, zipWith, barOf}
 
@@ -78,6 +78,23 @@ pub record MovedToStart (m : MergedStore) (from n : ℕ) (w : MergedStore) : Typ
   pub counts : w .counts ≡ copied (m .counts) 0 (m .counts) from n
   pub elements : inUse (w .counts) (w .elements) ≡ copied (inUse (m .counts) (m .elements)) 0 (inUse (m .counts) (m .elements)) from n
   pub rows : length (w .elements) ≡ length (m .elements)
+
+-- ds and fs are the columns cs of counts and es of elements with another row at a place, of which the times l are in use, at most 101. Of the row's other
+-- places nothing is said.
+pub record RowWritten (cs : List ℕ) (es : List (List ℤ)) (at : ℕ) (l : List ℤ) (ds : List ℕ) (fs : List (List ℤ)) : Type 0 where
+  pub count : ℕ
+  pub row : List ℤ
+  pub counts : ds ≡ set cs at count
+  pub elements : fs ≡ set es at row
+  pub reads : take count row ≡ l
+  pub few : count ≤ 101
+
+-- w is the store m with a bar at a place that reads as k, and has at most 101 elements
+pub record BarWritten (m : MergedStore) (at : ℕ) (k : Merged) (w : MergedStore) : Type 0 where
+  pub bar : NewBar
+  pub store : w ≡ setNewBar m at bar
+  pub reads : mergedOf bar ≡ k
+  pub few : bar .count ≤ 101
 
 -- times rise strictly
 unfoldable pub rising : List ℤ → Bool
