@@ -66,6 +66,17 @@ rise-turn v i ok ok' x r h e f g =
     ∙ sym (and-assoc ok (ltZ (getD v i (pos 0)) (getD v (i + 1) (pos 0))) (rising (drop (i + 1) v)))
     ∙ sym (ap (λ (y : Bool). ok && y) (rising-at v i h)) ∙ g
 
+-- a turn that goes on only where the pair at i rises
+module _ (v : List ℤ) (i : ℕ) (x r : Bool) (h : i + 1 < length v) (e : x ≡ ltZ (getD v i (pos 0)) (getD v (i + 1) (pos 0))) (g : rising (drop i v) ≡ r) where
+  by-pair : (x && rising (drop (i + 1) v)) ≡ r
+  by-pair = ap (λ (y : Bool). y && rising (drop (i + 1) v)) e ∙ sym (rising-at v i h) ∙ g
+
+  pub rise-on : x ≡ true → rising (drop (i + 1) v) ≡ r
+  rise-on t = sym (ap (λ (y : Bool). y && rising (drop (i + 1) v)) t) ∙ by-pair
+
+  pub rise-stop : x ≡ false → false ≡ r
+  rise-stop t = sym (ap (λ (y : Bool). y && rising (drop (i + 1) v)) t) ∙ by-pair
+
 rise-short : (l : List ℤ) → length l < 2 → rising l ≡ true
 unfolding rising
 rise-short [] h = refl
