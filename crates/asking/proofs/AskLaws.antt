@@ -14,6 +14,7 @@ use Rattle.bars.specs.declared.Bar.{Bar}
 use Rattle.bars.specs.Bars.{Merged}
 use Rattle.bars.specs.Lists.{last}
 use Rattle.bars.specs.Questions.{question9, notEarlier, firstFailed, firstFailedAfter}
+use Rattle.bars.specs.Code.MergedBars.{mergeBars}
 use Rattle.stores.specs.Stores.{RawStore, MergedStore, rawPart, zipWith, barOf, rawBars, mergedBars}
 use Rattle.stores.specs.Code.StoreRows.{SizedRaw, barAt}
 use Rattle.stores.proofs.Columns.{raw-length, raw-at}
@@ -25,6 +26,7 @@ use Rattle.machine.specs.Feed.{isLater}
 use Rattle.machine.specs.FeedQuestions.{fewerIf, orElse, firstOf}
 use Rattle.strokes.specs.declared.Stand.{Stand}
 use Rattle.strokes.specs.declared.strokes_store.LastStroke.{LastStroke}
+use Rattle.strokes.specs.Code.BarSteps.{mergedAgain}
 use Rattle.strokes.specs.Code.StrokeSteps.{lastRead, lastBars, LastStands}
 use Rattle.strokes.proofs.StoredRaw.{last-take}
 use Rattle.check_bi.specs.declared.check_fx.Candle.{Candle}
@@ -33,10 +35,12 @@ use Rattle.check_bi.specs.Code.View.{view, candleFrom, candles}
 use Rattle.check_bi.proofs.ScanViews.{length-view, candles-view, view-map}
 use Rattle.asking.specs.declared.plan.Last.{Last}
 use Rattle.asking.specs.declared.plan.Plan.{Plan}
-use Rattle.asking.specs.Code.MergedTail.{CanMergeTail, HasTail, barsOnly, mergedBy}
+use Rattle.asking.specs.declared.questions.Tried.{Tried}
+use Rattle.asking.specs.Code.MergedTail.{CanTail, CanMergeTail, HasTail, barsOnly, mergedBy}
 use Rattle.asking.specs.Code.FeedPlan.{planOf, InView}
 use Rattle.asking.specs.Code.Asked.{lastOf}
-use Rattle.asking.specs.Code.AskSteps.{earlyBy, EarlyOf, markFor, lastFrom, lastIn, HasLast, InColumns, CanTry, triedBars, TriedOf}
+use Rattle.asking.specs.Code.AskSteps.{earlyBy, EarlyOf, markFor, lastFrom, lastIn, HasLast, InColumns, CanPlan, barCandle, TriedWith, CanTry, triedBars, TriedOf}
+use Rattle.asking.proofs.TailsAgain.{later-bars}
 
 -- ---- questions 5 to 10
 
@@ -121,9 +125,6 @@ plan-of-last kept minimum n z w v r e h = (h .0 ∙ ap (λ (x : Last). planOf ke
 
 -- ---- the view of store and tail
 
-barCandle : Bar → Candle
-barCandle b = record { time = b .time; high = b .high; low = b .low }
-
 -- of the rows of a store
 raw-candles : (ts is : List ℤ) (ps : List (List Float)) → length is ≡ length ts → length ps ≡ length ts → map barCandle (rawBars (record { times = ts; ids = is; prices = ps })) ≡ candles ts ps
 unfolding rawBars zipWith candles barOf candleFrom barCandle
@@ -138,8 +139,8 @@ bars-candles [] = refl
 bars-candles (k ∷ l) = ap (candleOf k ∷_) (bars-candles l)
 
 -- the bars l, seen in the first n rows of the store u and the first m of the tail w
-module _ (u w : RawStore) (K k n m : ℕ) (l : List Merged) (h : SizedRaw u K) (fits : n ≤ K) (t : HasTail u w k n m (barsOnly l)) where
-  pub view-candles : candles (view n (u .times) m (w .times)) (view n (u .prices) m (w .prices)) ≡ map candleOf l
+module _ (u w : RawStore) (K k n m : ℕ) (l : List Bar) (h : SizedRaw u K) (fits : n ≤ K) (t : HasTail u w k n m l) where
+  pub view-candles : candles (view n (u .times) m (w .times)) (view n (u .prices) m (w .prices)) ≡ map barCandle l
   view-candles =
       let z = t .sized in
       candles-view (u .times) (w .times) (u .prices) (w .prices) n m (rw (h .times) fits) (rw (h .prices) fits)
@@ -147,47 +148,80 @@ module _ (u w : RawStore) (K k n m : ℕ) (l : List Merged) (h : SizedRaw u K) (
       (raw-candles (w .times) (w .ids) (w .prices) (z .ids ∙ sym (z .times)) (z .prices ∙ sym (z .times)) i))
       ∙ sym (view-map barCandle n (rawBars u) m (rawBars w))
       ∙ ap (map barCandle) (t .bars)
-      ∙ bars-candles l
 
   pub view-total : n + m ≡ length l
-  unfolding barsOnly
   view-total =
       let within = t .within in
-      sym (length-view (rawBars u) (rawBars w) n m (rw (raw-length u K h) fits) (rw (raw-length w k (t .sized)) within)) ∙ ap length (t .bars) ∙ length-map l (λ k. k .bar)
+      sym (length-view (rawBars u) (rawBars w) n m (rw (raw-length u K h) fits) (rw (raw-length w k (t .sized)) within)) ∙ ap length (t .bars)
 
 -- ---- a bar is tried
 
+-- the bars l, in the store u and a tail w of at most 103 places
+module _ (s : Stand) (u : RawStore) (ts : List ℤ) (ps : List (List Float)) (h : CanPlan s u ts ps) (w : RawStore) (k n m : ℕ) (l : List Bar) (short : k ≤ 103) (t : HasTail u w k n m l)
+    (front : n ≤ s .unfinished) where
+  pub try-columns : InColumns (u .times) (w .times) (u .prices) (w .prices) n m
+  try-columns =
+      let z = t .sized in
+      let within = t .within in
+      let fits = h .fits in
+      let small = h .small in
+      let e = h .unfinished .prices in
+      let f = z .times in
+      let g = z .prices in
+      record { times = omega arith; prices = omega arith; tail-times = omega arith; tail-prices = omega arith; few = omega arith }
+
+  pub try-done : (p : Plan) → (p ≡ planOf (s .strokes) (s .minimum) (lastIn (s .strokes) s ts ps) (candles (view n (u .times) m (w .times)) (view n (u .prices) m (w .prices)))) × InView p (n + m)
+      → TriedWith s l ts ps (record { plan = p; total = n + m })
+  try-done p q =
+      let fits : n ≤ length (u .times) = (let a = h .fits in omega arith) in
+      let few = try-columns .few in
+      let in-view = q .1 .bars-in in
+      record {
+        plan = q .0 ∙ ap (planOf (s .strokes) (s .minimum) (lastIn (s .strokes) s ts ps)) (view-candles u w (length (u .times)) k n m l (h .unfinished) fits t);
+        total = view-total u w (length (u .times)) k n m l (h .unfinished) fits t;
+        found = omega arith;
+      }
+
 module _ (later : Bool) (s : Stand) (r : RawStore) (u : MergedStore) (ts : List ℤ) (ps : List (List Float)) (h : CanTry later s r u ts ps) (b : Bar) where
-  pub try-tail : (t : RawStore) → SizedRaw t 103 → CanMergeTail later u t (length (u .times)) (s .unfinished)
-  try-tail t z = record { store = h .unfinished; tail = z; fits = h .fits; again = h .again }
+  pub can-plan : CanPlan s (rawPart u) ts ps
+  can-plan = record { unfinished = h .unfinished .raw; fits = h .fits; small = h .small; last = h .last }
 
-  module _ (w : RawStore) (n m : ℕ)
-      (t : HasTail (rawPart u) w 103 n m (barsOnly (mergedBy later (take (s .raw) (rawBars r)) (take (s .unfinished) (mergedBars u)) b)) × (n ≤ s .unfinished)) where
-    pub try-columns : InColumns (u .times) (w .times) (u .prices) (w .prices) n m
-    try-columns =
-        let z = t .0 .sized in
-        let within = t .0 .within in
-        let front = t .1 in
-        let fits = h .fits in
-        let small = h .small in
-        let e = h .unfinished .raw .prices in
-        let f = z .times in
-        let g = z .prices in
-        record { times = omega arith; prices = omega arith; tail-times = omega arith; tail-prices = omega arith; few = omega arith }
+  tried-with : (t : Tried) (l : List Bar) → l ≡ barsOnly (triedBars later s r u b) → TriedWith s l ts ps t → TriedOf later s r u ts ps b t
+  unfolding barsOnly
+  tried-with t l e q =
+      let m = triedBars later s r u b in
+      record {
+        plan = q .plan ∙ ap (planOf (s .strokes) (s .minimum) (lastIn (s .strokes) s ts ps)) (ap (map barCandle) e ∙ bars-candles m);
+        total = q .total ∙ ap length e ∙ length-map m (λ k. k .bar);
+        found = q .found;
+      }
 
-    pub try-done : (p : Plan) → (p ≡ planOf (s .strokes) (s .minimum) (lastIn (s .strokes) s ts ps) (candles (view n (u .times) m (w .times)) (view n (u .prices) m (w .prices)))) × InView p (n + m)
-        → TriedOf later s r u ts ps b (record { plan = p; total = n + m })
-    unfolding triedBars
-    try-done p q =
-        let fits : n ≤ length (u .times) = (let a = h .fits in let c = t .1 in omega arith) in
-        let l = mergedBy later (take (s .raw) (rawBars r)) (take (s .unfinished) (mergedBars u)) b in
-        let few = try-columns .few in
-        let in-view = q .1 .bars-in in
-        record {
-          plan = q .0 ∙ ap (planOf (s .strokes) (s .minimum) (lastIn (s .strokes) s ts ps)) (view-candles (rawPart u) w (length (u .times)) 103 n m l (h .unfinished .raw) fits (t .0));
-          total = view-total (rawPart u) w (length (u .times)) 103 n m l (h .unfinished .raw) fits (t .0);
-          found = omega arith;
-        }
+  pub tried-later : (t : Tried) → later ≡ true → TriedWith s (mergeBars (take (s .unfinished) (rawBars (rawPart u))) b) ts ps t → TriedOf later s r u ts ps b t
+  unfolding triedBars mergedBy
+  tried-later t e q =
+      tried-with t (mergeBars (take (s .unfinished) (rawBars (rawPart u))) b)
+      (later-bars u (length (u .times)) (s .unfinished) b (h .unfinished) ∙ ap (λ (x : Bool). barsOnly (triedBars x s r u b)) (sym e)) q
+
+  pub can-again : later ≡ false → CanTry false s r u ts ps
+  can-again e = subst (λ (x : Bool). CanTry x s r u ts ps) e h
+
+  pub tried-again : (t : Tried) → later ≡ false → TriedOf false s r u ts ps b t → TriedOf later s r u ts ps b t
+  tried-again t e q = subst (λ (x : Bool). TriedOf x s r u ts ps b t) (sym e) q
+
+-- a later bar's tail has three places or more
+pub later-tail : (s : Stand) (u t : RawStore) (ts : List ℤ) (ps : List (List Float)) → CanPlan s u ts ps → SizedRaw t 3 → CanTail u t (length (u .times)) (length (t .times)) (s .unfinished) 1
+later-tail s u t ts ps h z =
+    let e = z .times in
+    record { store = h .unfinished; tail = record { times = refl; ids = z .ids ∙ sym e; prices = z .prices ∙ sym e }; kept = h .fits; room = omega arith }
+
+-- a bar with the last time
+module _ (s : Stand) (r : RawStore) (u : MergedStore) (ts : List ℤ) (ps : List (List Float)) (h : CanTry false s r u ts ps) (b : Bar) where
+  pub again-tail : (t : RawStore) → SizedRaw t 103 → CanMergeTail u t (length (u .times)) (s .unfinished)
+  again-tail t z = record { store = h .unfinished; tail = z; fits = h .fits; again = h .again refl }
+
+  pub again-tried : (t : Tried) → TriedWith s (barsOnly (mergedAgain (take (s .raw) (rawBars r)) (take (s .unfinished) (mergedBars u)) b)) ts ps t → TriedOf false s r u ts ps b t
+  unfolding triedBars mergedBy
+  again-tried t q = tried-with false s r u ts ps h b t (barsOnly (mergedAgain (take (s .raw) (rawBars r)) (take (s .unfinished) (mergedBars u)) b)) refl q
 
 -- ---- the mark of a direction
 

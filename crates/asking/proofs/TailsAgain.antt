@@ -1,6 +1,5 @@
--- Laws of the tail of a bar with the last time, and of both tails as what merging gives. Assumes nothing.
+-- Laws of the tail of a bar with the last time, and of the bars that both tails give, without their elements. Assumes nothing.
 use Prim.Native.Nat.{ℕ, _+_, _-_, _<_, _≤_}
-use mathlib.Core.Bool.{Bool, true, false}
 use mathlib.Core.List.{List, [], _∷_, _++_, map}
 use mathlib.Core.Option.{some}
 use mathlib.Core.Path.{_≡_, refl, ap, sym, _∙_, subst}
@@ -23,7 +22,7 @@ use Rattle.strokes.specs.Code.BarSteps.{mergedAgain}
 use Rattle.strokes.proofs.StoredRaw.{init-take, last-take}
 use Rattle.strokes.proofs.StoredUnfinished.{room-of}
 use Rattle.check_bi.specs.Code.View.{view}
-use Rattle.asking.specs.Code.MergedTail.{CanTail, CanRun, HasTail, CanMergeTail, barsOnly, mergedBy}
+use Rattle.asking.specs.Code.MergedTail.{CanTail, CanRun, HasTail, CanMergeTail, barsOnly}
 use Rattle.asking.proofs.MergedTails.{TailGoing, tail-turn, tail-end, tail-of}
 
 -- ---- the run over the elements
@@ -81,7 +80,7 @@ merge-end l (x ∷ bs) b = merge-end (mergeBars l x) bs b
 
 -- ---- a bar with the last time
 
-module _ (u : MergedStore) (t : RawStore) (K n : ℕ) (h : CanMergeTail false u t K n) (raw : List Bar) (b : Bar) (k : NewBar) (reads : k ≡ newBarAt u (n - 1)) (row : length (k .elements) ≡ 101) where
+module _ (u : MergedStore) (t : RawStore) (K n : ℕ) (h : CanMergeTail u t K n) (raw : List Bar) (b : Bar) (k : NewBar) (reads : k ≡ newBarAt u (n - 1)) (row : length (k .elements) ≡ 101) where
   pub again-count : k .count ≡ getD (u .counts) (n - 1) 0
   unfolding newBarAt
   again-count = ap (λ (x : NewBar). x .count) reads
@@ -92,7 +91,7 @@ module _ (u : MergedStore) (t : RawStore) (K n : ℕ) (h : CanMergeTail false u 
   again-is =
       let l = mergedBars u in
       let z = mergedOf k in
-      let has = h .again refl in
+      let has = h .again in
       let one = has .kept in
       let fits = h .fits in
       let few = has .most in
@@ -122,7 +121,7 @@ module _ (u : MergedStore) (t : RawStore) (K n : ℕ) (h : CanMergeTail false u 
         let z = s .0 .sized in
         let e = z .times in
         let count = again-count in
-        let few = (h .again refl) .most in
+        let few = h .again .most in
         let fits = h .fits in
         let before = s .1 in
         let short = s .2 in
@@ -144,7 +143,7 @@ module _ (u : MergedStore) (t : RawStore) (K n : ℕ) (h : CanMergeTail false u 
           let z = q .0 .sized in
           let e = z .times in
           let count = again-count in
-          let few = (h .again refl) .most in
+          let few = h .again .most in
           let fits = h .fits in
           let before = s .1 in
           let short = s .2 in
@@ -163,41 +162,11 @@ module _ (u : MergedStore) (t : RawStore) (K n : ℕ) (h : CanMergeTail false u 
             omega arith,
           )
 
--- ---- both
+-- ---- its start
 
-pub again-start : (u : MergedStore) (t : RawStore) (K n : ℕ) → CanMergeTail false u t K n → CanTail (rawPart u) t K (length (t .times)) (n - 1) 0
+pub again-start : (u : MergedStore) (t : RawStore) (K n : ℕ) → CanMergeTail u t K n → CanTail (rawPart u) t K (length (t .times)) (n - 1) 0
 again-start u t K n h =
     let z = h .tail in
     let e = z .times in
     let fits = h .fits in
     record { store = h .store .raw; tail = record { times = refl; ids = z .ids ∙ sym e; prices = z .prices ∙ sym e }; kept = omega arith; room = omega arith }
-
-pub later-start : (later : Bool) (u : MergedStore) (t : RawStore) (K n : ℕ) → CanMergeTail later u t K n → CanTail (rawPart u) t K (length (t .times)) n 1
-later-start later u t K n h =
-    let z = h .tail in
-    let e = z .times in
-    record { store = h .store .raw; tail = record { times = refl; ids = z .ids ∙ sym e; prices = z .prices ∙ sym e }; kept = h .fits; room = omega arith }
-
-pub later-done : (later : Bool) (u : MergedStore) (t w : RawStore) (K n p r : ℕ) (raw : List Bar) (b : Bar) → CanMergeTail later u t K n → later ≡ true
-    → HasTail (rawPart u) w (length (t .times)) p r (mergeBars (take n (rawBars (rawPart u))) b) × (p ≤ n) × (r ≤ 2)
-    → HasTail (rawPart u) w 103 p r (barsOnly (mergedBy later raw (take n (mergedBars u)) b)) × (p ≤ n)
-unfolding mergedBy
-later-done later u t w K n p r raw b h e q = (
-  tail-of (rawPart u) w 103 p r (mergeBars (take n (rawBars (rawPart u))) b) (barsOnly (mergedBy later raw (take n (mergedBars u)) b))
-      (later-bars u K n b (h .store) ∙ ap (λ (x : Bool). barsOnly (mergedBy x raw (take n (mergedBars u)) b)) (sym e))
-      (subst (λ (j : ℕ). HasTail (rawPart u) w j p r (mergeBars (take n (rawBars (rawPart u))) b)) (h .tail .times) (q .0)),
-  q .1,
-)
-
-pub again-asked : (later : Bool) (u : MergedStore) (t : RawStore) (K n : ℕ) → CanMergeTail later u t K n → later ≡ false → CanMergeTail false u t K n
-again-asked later u t K n h e = record { store = h .store; tail = h .tail; fits = h .fits; again = λ z. h .again e }
-
-pub again-given : (later : Bool) (u : MergedStore) (w : RawStore) (n p r : ℕ) (raw : List Bar) (b : Bar) → later ≡ false
-    → HasTail (rawPart u) w 103 p r (barsOnly (mergedAgain raw (take n (mergedBars u)) b)) × (p ≤ n)
-    → HasTail (rawPart u) w 103 p r (barsOnly (mergedBy later raw (take n (mergedBars u)) b)) × (p ≤ n)
-unfolding mergedBy
-again-given later u w n p r raw b e q = (
-  tail-of (rawPart u) w 103 p r (barsOnly (mergedAgain raw (take n (mergedBars u)) b)) (barsOnly (mergedBy later raw (take n (mergedBars u)) b))
-      (ap (λ (x : Bool). barsOnly (mergedBy x raw (take n (mergedBars u)) b)) (sym e)) (q .0),
-  q .1,
-)

@@ -2,7 +2,6 @@
 // and behind them the first `rows` of a tail in rows that the caller lends.
 ghost use mathlib.Core.List.{[], _∷_};
 ghost use mathlib.Core.Path.{_≡_};
-ghost use mathlib.Core.Bool.{false};
 ghost use Prim.Native.Nat.{_+_, _≤_};
 ghost use lib.ListN.{length, take};
 ghost use Rattle.stores.specs.Stores.{rawBars, mergedBars};
@@ -10,7 +9,7 @@ ghost use Rattle.bars.specs.Merging.{atTimes};
 ghost use Rattle.bars.specs.Code.MergedBars.{mergeBars, mergeBarsAll};
 ghost use Rattle.check_bi.specs.Code.View.{view};
 ghost use Rattle.strokes.specs.Code.BarSteps.{mergedAgain};
-ghost use Rattle.asking.specs.Code.MergedTail.{CanTail, CanRun, HasTail, NamedRaw, CanMergeTail, barsOnly, mergedBy};
+ghost use Rattle.asking.specs.Code.MergedTail.{CanTail, CanRun, HasTail, NamedRaw, CanMergeTail, barsOnly};
 ghost use Rattle.stores.specs.Lent.{rawHeld, rawBefore, rawAfter, mergedHeld, mergedBefore};
 use bars::Bar;
 
@@ -95,7 +94,7 @@ fn start_tail(
 }
 
 // A later bar b: what merging it into the first `count` bars of the unfinished store would give.
-fn tail_later(
+pub fn tail_later(
     ut: &[i64],
     ui: &[i32],
     up: &[[f64; 6]],
@@ -147,7 +146,7 @@ fn merge_elements(
 
 // A bar b with the last time: what would come of taking off the last of the first `count` bars of the unfinished store and merging again
 // the raw bars that its elements but the last name, and then b.
-fn tail_again(
+pub fn tail_again(
     rt: &[i64],
     ri: &[i32],
     rp: &[[f64; 6]],
@@ -163,7 +162,7 @@ fn tail_again(
     tp: &mut [[f64; 6]],
     b: Bar,
 ) -> TailAnswer
-    requires { ⌜ NamedRaw (rawHeld rt ri rp) (length (now rt)) raw ⌝ ∗ ⌜ CanMergeTail false (mergedHeld ut ui up uc ue) (rawHeld tt ti tp) (length (now ut)) count ⌝ }
+    requires { ⌜ NamedRaw (rawHeld rt ri rp) (length (now rt)) raw ⌝ ∗ ⌜ CanMergeTail (mergedHeld ut ui up uc ue) (rawHeld tt ti tp) (length (now ut)) count ⌝ }
     ensures { λ r. ⌜ HasTail (rawBefore ut ui up) (rawAfter tt ti tp) 103 (r .base) (r .rows) (barsOnly (mergedAgain (take raw (rawBars (rawBefore rt ri rp))) (take count (mergedBars (mergedBefore ut ui up uc ue))) b)) × (r .base ≤ count) ⌝ }
 {
     let at = count - 1;
@@ -176,31 +175,4 @@ fn tail_again(
     let kept = merge_elements(rt, ri, rp, raw, ut, ui, up, base, tt, ti, tp, m, es, old);
     let rows = merge_behind(ut, ui, up, base, tt, ti, tp, kept, b);
     TailAnswer { base, rows }
-}
-
-// What merging b into the first `count` bars of the unfinished store would give, by whether it is later than the newest raw bar.
-pub fn tail_of(
-    rt: &[i64],
-    ri: &[i32],
-    rp: &[[f64; 6]],
-    raw: usize,
-    ut: &[i64],
-    ui: &[i32],
-    up: &[[f64; 6]],
-    uc: &[usize],
-    ue: &[[i64; 101]],
-    count: usize,
-    tt: &mut [i64],
-    ti: &mut [i32],
-    tp: &mut [[f64; 6]],
-    later: bool,
-    b: Bar,
-) -> TailAnswer
-    requires { ⌜ NamedRaw (rawHeld rt ri rp) (length (now rt)) raw ⌝ ∗ ⌜ CanMergeTail later (mergedHeld ut ui up uc ue) (rawHeld tt ti tp) (length (now ut)) count ⌝ }
-    ensures { λ r. ⌜ HasTail (rawBefore ut ui up) (rawAfter tt ti tp) 103 (r .base) (r .rows) (barsOnly (mergedBy later (take raw (rawBars (rawBefore rt ri rp))) (take count (mergedBars (mergedBefore ut ui up uc ue))) b)) × (r .base ≤ count) ⌝ }
-{
-    if later {
-        return tail_later(ut, ui, up, count, tt, ti, tp, b);
-    }
-    tail_again(rt, ri, rp, raw, ut, ui, up, uc, ue, count, tt, ti, tp, b)
 }

@@ -1,9 +1,11 @@
 // Questions 5 to 12 of a feed, asked of the stand, the lent stores and the bar. Nothing is written: a feed writes what the plan says once
 // all are answered "yes".
 ghost use mathlib.Core.Path.{_≡_};
+ghost use mathlib.Core.Bool.{false};
 ghost use Prim.Native.Nat.{_+_, _≤_, _<_};
 ghost use lib.ListN.{length, take};
 ghost use Rattle.bars.specs.Lists.{last};
+ghost use Rattle.bars.specs.Code.MergedBars.{mergeBars};
 ghost use Rattle.stores.specs.Stores.{rawBars};
 ghost use Rattle.stores.specs.Code.StoreRows.{SizedRaw};
 ghost use Rattle.check_bi.specs.Code.View.{view, candles};
@@ -12,9 +14,10 @@ ghost use Rattle.strokes.specs.Lent.{held, before};
 ghost use Rattle.sound.specs.StandSound.{IsSound};
 ghost use Rattle.asking.specs.Code.FeedPlan.{planOf, InView};
 ghost use Rattle.asking.specs.Code.Asked.{AskedOf};
-ghost use Rattle.asking.specs.Code.AskSteps.{earlyBy, EarlyOf, markFor, lastIn, HasLast, InColumns, CanTry, TriedOf};
+ghost use Rattle.asking.specs.Code.AskSteps.{earlyBy, EarlyOf, markFor, lastIn, HasLast, InColumns, CanPlan, TriedWith, CanTry, TriedOf};
 ghost use Rattle.stores.specs.Lent.{rawHeld, rawBefore, mergedHeld, mergedBefore};
-use crate::merged_tail::tail_of;
+use crate::merged_tail::tail_again;
+use crate::merged_tail::tail_later;
 use crate::plan::Last;
 use crate::plan::Plan;
 use crate::plan::no_plan;
@@ -142,6 +145,81 @@ fn plan_with(
     plan_of(ut, tt, up, tp, base, rows, kept, minimum, last)
 }
 
+// What the feed of a later bar would do. Its tail holds two bars at most.
+fn try_later(
+    stand: Stand,
+    ut: &[i64],
+    ui: &[i32],
+    up: &[[f64; 6]],
+    st: &[i64],
+    fp: &[[f64; 18]],
+    b: Bar,
+) -> Tried
+    requires { ⌜ CanPlan stand (rawHeld ut ui up) (now st) (now fp) ⌝ }
+    ensures { λ r. ⌜ TriedWith stand (mergeBars (take (stand .unfinished) (rawBars (rawBefore ut ui up))) b) (now (st .entry)) (now (fp .entry)) r ⌝ }
+{
+    let mut tt = [0i64; 3];
+    let mut ti = [0i32; 3];
+    let mut tp = [[0f64; 6]; 3];
+    let count = stand.unfinished;
+    let tail = tail_later(ut, ui, up, count, &mut tt, &mut ti, &mut tp, b);
+    let base = tail.base;
+    let rows = tail.rows;
+    let plan = plan_with(stand, ut, up, &tt, &tp, base, rows, st, fp);
+    Tried {
+        plan,
+        total: base + rows,
+    }
+}
+
+// What the feed of a bar with the last time would do.
+fn try_again(
+    stand: Stand,
+    rt: &[i64],
+    ri: &[i32],
+    rp: &[[f64; 6]],
+    ut: &[i64],
+    ui: &[i32],
+    up: &[[f64; 6]],
+    uc: &[usize],
+    ue: &[[i64; 101]],
+    st: &[i64],
+    fp: &[[f64; 18]],
+    b: Bar,
+) -> Tried
+    requires { ⌜ CanTry false stand (rawHeld rt ri rp) (mergedHeld ut ui up uc ue) (now st) (now fp) ⌝ }
+    ensures { λ r. ⌜ TriedOf false stand (rawBefore rt ri rp) (mergedBefore ut ui up uc ue) (now (st .entry)) (now (fp .entry)) b r ⌝ }
+{
+    let mut tt = [0i64; 103];
+    let mut ti = [0i32; 103];
+    let mut tp = [[0f64; 6]; 103];
+    let raw = stand.raw;
+    let count = stand.unfinished;
+    let tail = tail_again(
+        rt,
+        ri,
+        rp,
+        raw,
+        ut,
+        ui,
+        up,
+        uc,
+        ue,
+        count,
+        &mut tt,
+        &mut ti,
+        &mut tp,
+        b,
+    );
+    let base = tail.base;
+    let rows = tail.rows;
+    let plan = plan_with(stand, ut, up, &tt, &tp, base, rows, st, fp);
+    Tried {
+        plan,
+        total: base + rows,
+    }
+}
+
 // What the feed would do, with the tail in rows of its own.
 fn try_bar(
     stand: Stand,
@@ -161,35 +239,10 @@ fn try_bar(
     requires { ⌜ CanTry later stand (rawHeld rt ri rp) (mergedHeld ut ui up uc ue) (now st) (now fp) ⌝ }
     ensures { λ r. ⌜ TriedOf later stand (rawBefore rt ri rp) (mergedBefore ut ui up uc ue) (now (st .entry)) (now (fp .entry)) b r ⌝ }
 {
-    let mut tt = [0i64; 103];
-    let mut ti = [0i32; 103];
-    let mut tp = [[0f64; 6]; 103];
-    let raw = stand.raw;
-    let count = stand.unfinished;
-    let tail = tail_of(
-        rt,
-        ri,
-        rp,
-        raw,
-        ut,
-        ui,
-        up,
-        uc,
-        ue,
-        count,
-        &mut tt,
-        &mut ti,
-        &mut tp,
-        later,
-        b,
-    );
-    let base = tail.base;
-    let rows = tail.rows;
-    let plan = plan_with(stand, ut, up, &tt, &tp, base, rows, st, fp);
-    Tried {
-        plan,
-        total: base + rows,
+    if later {
+        return try_later(stand, ut, ui, up, st, fp, b);
     }
+    try_again(stand, rt, ri, rp, ut, ui, up, uc, ue, st, fp, b)
 }
 
 // Questions 5 to 12, of a stand that is sound: question 4 has passed. For the feed above, which proves just that before it calls; no other caller needs it.

@@ -11,7 +11,7 @@ use Rattle.bars.specs.declared.Bar.{Bar}
 use Rattle.bars.specs.Bars.{Merged}
 use Rattle.bars.specs.Questions.{firstFailed}
 use Rattle.stores.specs.Stores.{RawStore, MergedStore, rawBars, mergedBars}
-use Rattle.stores.specs.Code.StoreRows.{SizedMerged}
+use Rattle.stores.specs.Code.StoreRows.{SizedRaw, SizedMerged}
 use Rattle.machine.specs.declared.Mark.{Mark}
 use Rattle.machine.specs.declared.Mark.the-variants.{D, G}
 use Rattle.machine.specs.declared.Direction.{Direction}
@@ -21,6 +21,7 @@ use Rattle.machine.specs.FeedQuestions.{fewerIf, orElse, firstOf}
 use Rattle.strokes.specs.declared.Stand.{Stand}
 use Rattle.strokes.specs.declared.strokes_store.LastStroke.{LastStroke}
 use Rattle.strokes.specs.Code.StrokeSteps.{lastRead, LastStands}
+use Rattle.check_bi.specs.declared.check_fx.Candle.{Candle}
 use Rattle.check_bi.specs.Code.Scan.{candleOf}
 use Rattle.asking.specs.declared.questions.Early.{Early}
 use Rattle.asking.specs.declared.questions.Tried.{Tried}
@@ -74,6 +75,23 @@ pub record InColumns (ts us : List ℤ) (ps qs : List (List Float)) (n m : ℕ) 
   pub tail-times : m ≤ length us
   pub tail-prices : m ≤ length qs
   pub few : n + m < 4294967296
+
+-- what the plan asks of the stand, of the unfinished bars and of the columns that the last stroke is read from
+pub record CanPlan (s : Stand) (u : RawStore) (ts : List ℤ) (ps : List (List Float)) : Type 0 where
+  pub unfinished : SizedRaw u (length (u .times))
+  pub fits : s .unfinished ≤ length (u .times)
+  pub small : length (u .times) ≤ 65536
+  pub last : HasLast s ts ps
+
+-- of a bar, what the search for fractals reads
+unfoldable pub barCandle : Bar → Candle
+barCandle b = record { time = b .time; high = b .high; low = b .low }
+
+-- how many unfinished bars there would be, and the plan, where they are the bars l
+pub record TriedWith (s : Stand) (l : List Bar) (ts : List ℤ) (ps : List (List Float)) (t : Tried) : Type 0 where
+  pub plan : t .plan ≡ planOf (s .strokes) (s .minimum) (lastIn (s .strokes) s ts ps) (map barCandle l)
+  pub total : t .total ≡ length l
+  pub found : t .plan .found .bars < 4294967296
 
 -- what trying a bar asks of the stand and of the columns that are read
 pub record CanTry (later : Bool) (s : Stand) (r : RawStore) (u : MergedStore) (ts : List ℤ) (ps : List (List Float)) : Type 0 where

@@ -49,12 +49,12 @@ pub record LastOf (u : MergedStore) (n : ℕ) : Type 0 where
   pub some : 1 ≤ getD (u .counts) (n - 1) 0
   pub most : getD (u .counts) (n - 1) 0 ≤ 101
 
--- a bar can be merged into the first n bars of the store u, whose columns have K places: its tail, of 103 places, takes what comes of a bar with the last time
-pub record CanMergeTail (later : Bool) (u : MergedStore) (t : RawStore) (K n : ℕ) : Type 0 where
+-- a bar with the last time can be merged into the first n bars of the store u, whose columns have K places: its tail, of 103 places, takes what comes of it
+pub record CanMergeTail (u : MergedStore) (t : RawStore) (K n : ℕ) : Type 0 where
   pub store : SizedMerged u K
   pub tail : SizedRaw t 103
   pub fits : n ≤ K
-  pub again : later ≡ false → LastOf u n
+  pub again : LastOf u n
 
 -- merged bars without their elements
 unfoldable pub barsOnly : List Merged → List Bar

@@ -11,7 +11,7 @@ use Rattle.asking.proofs.merged_tail.tail_again.Statement.{statement}
 use Rattle.asking.proofs.merged_tail.tail_again.Tie as tie
 
 sub-at : tie.Need-sub-at
-sub-at c = let has = (c .before .pre .1 .again refl) .kept in omega arith
+sub-at c = let has = c .before .pre .1 .again .kept in omega arith
 
 read-new-bar-requires : tie.Need-read-new-bar-requires
 read-new-bar-requires c κs =
@@ -21,7 +21,7 @@ read-new-bar-requires c κs =
     let t = rawStore (a .tt .now) (a .ti .now) (a .tp .now) in
     let K = length (a .ut .now) in
     let h = o .pre .1 in
-    let has = (h .again refl) .kept in
+    let has = h .again .kept in
     let fits = h .fits in
     room-of u K (a .count - 1 + 1) (h .store) (omega arith)
 
@@ -37,7 +37,7 @@ sub-old c =
     let k = c .before .before .read-new-bar .result in
     let e = c .before .before .read-new-bar .ensures in
     let row : length (k .elements) ≡ 101 = length-unmapped _ (k .elements) 101 (c .before .before .read-new-bar .ok .1 .1 .1 .1 .0 .1 .0 .1) in
-    let has = (h .again refl) .some in
+    let has = h .again .some in
     let count = again-count u t K (a .count) h l (a .b) k e row in
     omega arith
 
