@@ -172,43 +172,75 @@ unfolding otherOf
 step-same D s i a b c h n e = after-bottom (bottomOf a b c) s i b h n ∙ step-by false (bottomOf a b c) s i a b c e refl
 step-same G s i a b c h n e = after-top (topOf a b c) s i b h n ∙ step-by (topOf a b c) false s i a b c refl e
 
--- once a fractal was seen, one is taken
-put-count : (t : Bool) (s : Scan) (f : Fx) → (putIf t s f) .count ≡ s .count + 1
-unfolding putIf
-put-count true s f = refl
-put-count false s f = refl
-
-take-some : (t m : Bool) (s : Scan) (f : Fx) → eqb (s .count) 0 ≡ t → (takeIf t m s f) .count ≡ 0 → ⊥
-unfolding takeIf openedOf putOf
-take-some true m s f h e = omega arith
-take-some false true s f h e =
-    let q = eq-eqb (s .count) 0 e in
-    let y : _≡_ {A = ℕ} 0 1 = cc in
-    omega arith
-take-some false false s f h e = let q = put-count (closesOf s f) s f in omega arith
-
-some-by : (t u : Bool) (s : Scan) (i : ℕ) (b : Candle) → (t || u) ≡ true → (stepIf t u s i b) .count ≡ 0 → ⊥
-unfolding stepIf takeOf fxAt
-some-by true u s i b h e = take-some (eqb (s .count) 0) (sameMark (s .last) G) s (fxAt i G b) refl e
-some-by false true s i b h e = take-some (eqb (s .count) 0) (sameMark (s .last) D) s (fxAt i D b) refl e
-some-by false false s i b h e = let y : _≡_ {A = ℕ} 0 1 = cc in omega arith
-
-pub step-some : (s r : Scan) (i : ℕ) (a b c : Candle) → fractalOf a b c ≡ true → r ≡ stepOf s i a b c → r .count ≡ 0 → ⊥
-unfolding fractalOf stepOf
-step-some s r i a b c h e k = some-by (topOf a b c) (bottomOf a b c) s i b h (sym (ap (λ (z : Scan). z .count) e) ∙ k)
-
-pub small-at : (s : Scan) (i : ℕ) (m : Mark) (b : Candle) (f : Fx) → f ≡ fxAt i m b → Small s i → Small s (f .place)
-unfolding fxAt
-small-at s i m b f e h = subst (λ (z : Fx). Small s (z .place)) (sym e) h
-
--- ---- ranges
-
+-- a fractal is a top or a bottom, not both
 not-both : (x y : Float) → lt x y ≡ true → lt y x ≡ false
 not-both x y h = either (lt y x) (λ k. lt-asym x y (subst (λ (b : Bool). T b) (sym h) tt) k)
   where
     either : (b : Bool) → (T b → ⊥) → b ≡ false
     either true k = absurd (k tt)
     either false k = refl
+
+third : (p q r o : Bool) → ((p && q) && (r && o)) ≡ true → r ≡ true
+third p q true o h = refl
+third true true false o h = h
+third true false false o h = h
+third false q false o h = h
+
+no-top : (a b c : Candle) → bottomOf a b c ≡ true → topOf a b c ≡ false
+unfolding bottomOf topOf
+no-top a b c h =
+    let r = third (lt (b .low) (a .low)) (lt (b .low) (c .low)) (lt (b .high) (a .high)) (lt (b .high) (c .high)) h in
+    ap (λ (x : Bool). (x && lt (c .high) (b .high)) && (lt (a .low) (b .low) && lt (c .low) (b .low))) (not-both (b .high) (a .high) r)
+
+other-mark : (k : Mark) (a b c : Candle) → otherOf k a b c ≡ true → sameMark k (markIf (topOf a b c)) ≡ false
+unfolding otherOf markIf sameMark
+other-mark D a b c h = ap (λ (t : Bool). sameMark D (markIf t)) h
+other-mark G a b c h = ap (λ (t : Bool). sameMark G (markIf t)) (no-top a b c h)
+
+or-true : (b : Bool) → (b || true) ≡ true
+or-true true = refl
+or-true false = refl
+
+other-fractal : (k : Mark) (a b c : Candle) → otherOf k a b c ≡ true → fractalOf a b c ≡ true
+unfolding otherOf fractalOf
+other-fractal D a b c e = ap (λ (z : Bool). z || bottomOf a b c) e
+other-fractal G a b c e = ap (λ (z : Bool). topOf a b c || z) e ∙ or-true (topOf a b c)
+
+pub step-first : (i : ℕ) (a b c : Candle) (f : Fx) (r : Scan) → fractalOf a b c ≡ true → f ≡ fxAt i (markIf (topOf a b c)) b → r ≡ openedOf f → r ≡ stepOf blank i a b c
+unfolding blank
+step-first i a b c f r h e k = step-taken blank i a b c (markIf (topOf a b c)) f r h refl e (take-first blank f r refl k)
+
+pub step-put : (k : Mark) (s : Scan) (i : ℕ) (a b c : Candle) (f : Fx) (r : Scan) → s .last ≡ k → 0 < s .count → otherOf k a b c ≡ true → f ≡ fxAt i (markIf (topOf a b c)) b
+    → r ≡ putOf s f → r ≡ stepOf s i a b c
+unfolding fxAt
+step-put k s i a b c f r h n t e g =
+    step-taken s i a b c (markIf (topOf a b c)) f r (other-fractal k a b c t) refl e
+    (take-put s f r (λ z. omega arith) ((λ j. sameMark (h j) ((e j) .mark)) ∙ other-mark k a b c t) g)
+
+-- what a fractal that is taken leaves as the last mark and as the count
+put-last : (t : Bool) (s : Scan) (f : Fx) → ((putIf t s f) .last ≡ f .mark) × ((putIf t s f) .count ≡ s .count + 1)
+unfolding putIf
+put-last true s f = (refl, refl)
+put-last false s f = (refl, refl)
+
+pub after-put : (s r : Scan) (f : Fx) → r ≡ putOf s f → (r .last ≡ f .mark) × (0 < r .count)
+unfolding putOf
+after-put s r f e =
+    let q = put-last (closesOf s f) s f in
+    let x : r .count ≡ s .count + 1 = ap (λ (z : Scan). z .count) e ∙ q .1 in
+    (ap (λ (z : Scan). z .last) e ∙ q .0, omega arith)
+
+pub after-opened : (r : Scan) (f : Fx) → r ≡ openedOf f → (r .last ≡ f .mark) × (0 < r .count)
+unfolding openedOf
+after-opened r f e =
+    let x : r .count ≡ 1 = ap (λ (z : Scan). z .count) e in
+    (ap (λ (z : Scan). z .last) e, omega arith)
+
+pub small-at : (s : Scan) (i : ℕ) (m : Mark) (b : Candle) (f : Fx) → f ≡ fxAt i m b → Small s i → Small s (f .place)
+unfolding fxAt
+small-at s i m b f e h = subst (λ (z : Fx). Small s (z .place)) (sym e) h
+
+-- ---- ranges
 
 or-false : (b : Bool) → b ≡ (b || false)
 or-false true = refl

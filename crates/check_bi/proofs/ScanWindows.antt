@@ -4,7 +4,7 @@
 use Prim.Native.Nat.{ℕ, zero, suc, _+_, _-_, _≤_, _<_}
 use native.Mathlib.Omega.{arith}
 use mathlib.Core.Path.{_≡_, refl, ap, sym, _∙_, subst}
-use mathlib.Core.Bool.{Bool, true, false, _||_}
+use mathlib.Core.Bool.{Bool, true, false}
 use mathlib.Core.List.{List, []}
 use lib.ListN.{length, getD, drop}
 use lib.IntN.{ℤ, pos}
@@ -12,49 +12,46 @@ use lib.Dec.{ltb}
 use lib.Ieee.{Float}
 use borrow.Author.Tests.{ltb-true, ltb-false}
 use Rattle.check_bi.specs.declared.check_fx.Candle.{Candle}
+use Rattle.check_bi.specs.declared.check_fx.Fx.{Fx}
 use Rattle.check_bi.specs.declared.scan.Scan.{Scan}
 use Rattle.machine.specs.declared.Mark.{Mark}
 use Rattle.machine.specs.declared.Mark.the-variants.{D, G}
-use Rattle.check_bi.specs.Code.Scan.{topOf, bottomOf, fractalOf, otherOf, stepOf, blank}
+use Rattle.check_bi.specs.Code.Scan.{topOf, bottomOf, fractalOf, otherOf, takenOf, markIf, fxAt, putOf, openedOf, stepOf, blank, Small}
 use Rattle.check_bi.specs.Code.View.{view, candleFrom}
-use Rattle.check_bi.specs.Code.Windows.{rowAt, fractalAt, otherAt, NoneBetween, NextWindow}
-use Rattle.check_bi.proofs.ScanSteps.{step-none, step-same, step-some}
-use Rattle.check_bi.proofs.ScanViews.{view-left, candleOn, Scanning, Scanned, scan-began, scan-turned, scan-done}
+use Rattle.check_bi.specs.Code.Windows.{rowAt, barAt, takenAt, fxIn, NoneBetween, NextWindow}
+use Rattle.check_bi.proofs.ScanSteps.{step-none, step-same, step-first, step-put, after-put, after-opened, small-at}
+use Rattle.check_bi.proofs.ScanViews.{view-left, candleOn, Scanning, Scanned, scan-none, scan-began, scan-turned, scan-done}
 
 -- ---- one window
 
-module _ (ps : List (List Float)) (i : ℕ) (a b c : Candle) (p : a ≡ rowAt ps i) (q : b ≡ rowAt ps (i + 1)) (r : c ≡ rowAt ps (i + 2)) (z : Bool) where
-  pub fractal-is : z ≡ fractalOf a b c → z ≡ fractalAt ps i
-  unfolding fractalAt
-  fractal-is e = e ∙ (λ j. fractalOf (p j) (q j) (r j))
-
-  pub other-is : (k : Mark) → z ≡ otherOf k a b c → z ≡ otherAt ps k i
-  unfolding otherAt
-  other-is k e = e ∙ (λ j. otherOf k (p j) (q j) (r j))
-
 -- times are not read
-module _ (t u w : ℤ) {p q r p' q' r' : List Float} (e : p ≡ p') (f : q ≡ q') (g : r ≡ r') where
-  fractal-untimed : fractalOf (candleFrom t p) (candleFrom u q) (candleFrom w r) ≡ fractalOf (candleFrom (pos 0) p') (candleFrom (pos 0) q') (candleFrom (pos 0) r')
-  unfolding fractalOf topOf bottomOf candleFrom
-  fractal-untimed = λ i. fractalOf (candleFrom t (e i)) (candleFrom u (f i)) (candleFrom w (g i))
+untimed : (none : Bool) (k : Mark) (t u w : ℤ) (p q r : List Float)
+    → takenOf none k (candleFrom t p) (candleFrom u q) (candleFrom w r) ≡ takenOf none k (candleFrom (pos 0) p) (candleFrom (pos 0) q) (candleFrom (pos 0) r)
+unfolding takenOf fractalOf otherOf topOf bottomOf candleFrom
+untimed true k t u w p q r = refl
+untimed false D t u w p q r = refl
+untimed false G t u w p q r = refl
 
-  other-untimed : (k : Mark) → otherOf k (candleFrom t p) (candleFrom u q) (candleFrom w r) ≡ otherOf k (candleFrom (pos 0) p') (candleFrom (pos 0) q') (candleFrom (pos 0) r')
-  unfolding otherOf topOf bottomOf candleFrom
-  other-untimed D = λ i. topOf (candleFrom t (e i)) (candleFrom u (f i)) (candleFrom w (g i))
-  other-untimed G = λ i. bottomOf (candleFrom t (e i)) (candleFrom u (f i)) (candleFrom w (g i))
+module _ (ps : List (List Float)) (none : Bool) (k : Mark) (i : ℕ) (a b c : Candle) (z : Bool) (e : z ≡ takenOf none k a b c) where
+  pub taken-is : a ≡ rowAt ps i → b ≡ rowAt ps (i + 1) → c ≡ rowAt ps (i + 2) → z ≡ takenAt ps none k i
+  unfolding takenAt
+  taken-is p q r = e ∙ (λ j. takenOf none k (p j) (q j) (r j))
 
-or-true : (b : Bool) → (b || true) ≡ true
-or-true true = refl
-or-true false = refl
+  pub taken-timed : (ts : List ℤ) → a ≡ barAt ts ps i → b ≡ barAt ts ps (i + 1) → c ≡ barAt ts ps (i + 2) → z ≡ takenAt ps none k i
+  unfolding takenAt rowAt
+  taken-timed ts p q r =
+      e ∙ (λ j. takenOf none k (p j) (q j) (r j))
+      ∙ untimed none k (getD ts i (pos 0)) (getD ts (i + 1) (pos 0)) (getD ts (i + 2) (pos 0)) (getD ps i []) (getD ps (i + 1) []) (getD ps (i + 2) [])
 
-other-fractal : (k : Mark) (a b c : Candle) → otherOf k a b c ≡ true → fractalOf a b c ≡ true
-unfolding otherOf fractalOf
-other-fractal D a b c e = ap (λ (z : Bool). z || bottomOf a b c) e
-other-fractal G a b c e = ap (λ (z : Bool). topOf a b c || z) e ∙ or-true (topOf a b c)
+pub fx-in : (ts : List ℤ) (ps : List (List Float)) (lo i : ℕ) (a b c : Candle) (k : Mark) (f : Fx) → a ≡ barAt ts ps i → b ≡ barAt ts ps (i + 1) → c ≡ barAt ts ps (i + 2)
+    → k ≡ markIf (topOf a b c) → f ≡ fxAt (i - lo) k b → f ≡ fxIn ts ps lo i
+unfolding fxIn
+fx-in ts ps lo i a b c k f p q r e g =
+    g ∙ (λ j. fxAt (i - lo) (e j) b) ∙ (λ j. fxAt (i - lo) (markIf (topOf (p j) (q j) (r j))) (q j))
 
-other-at : (k : Mark) (ps : List (List Float)) (i : ℕ) → otherAt ps k i ≡ true → fractalAt ps i ≡ true
-unfolding otherAt fractalAt
-other-at k ps i e = other-fractal k (rowAt ps i) (rowAt ps (i + 1)) (rowAt ps (i + 2)) e
+pub small-in : (ts : List ℤ) (ps : List (List Float)) (lo i : ℕ) (s : Scan) (f : Fx) → f ≡ fxIn ts ps lo i → Small s (i - lo) → Small s (f .place)
+unfolding fxIn
+small-in ts ps lo i s f e h = small-at s (i - lo) _ _ f e h
 
 -- ---- the windows up to a row
 
@@ -74,11 +71,36 @@ module _ (t : ℕ → Bool) (n i : ℕ) where
           let y : k ≡ j = omega arith in
           ap t y ∙ e
 
+  pub none-fits : (j z : ℕ) → NoneBetween t n i j → n < z → i < z → j < z
+  none-fits j z w g l = by (ltb i j) refl
+    where
+      by : (b : Bool) → ltb i j ≡ b → j < z
+      by true q = omega (arith, w .within (ltb-true i j q))
+      by false q = omega (arith, ltb-false i j q)
+
   pub next-here : (j : ℕ) → NoneBetween t n i j → t j ≡ true → NextWindow t n i j
   next-here j w e = record { before = w; here = λ h. e }
 
   pub next-end : (j : ℕ) → NoneBetween t n i j → n ≤ j + 2 → NextWindow t n i j
   next-end j w e = record { before = w; here = λ h. absurd (omega arith) }
+
+-- the windows that lie in the store are those of the view
+module _ (ps qs : List (List Float)) (n m : ℕ) (hp : n ≤ length ps) (hq : m ≤ length qs) (none : Bool) (k : Mark) where
+  row : (i : ℕ) → i < n → getD (view n ps m qs) i [] ≡ getD ps i []
+  row i g = view-left ps qs n m hp hq i [] g
+
+  in-store : (p : ℕ) → p + 2 < n → takenAt (view n ps m qs) none k p ≡ takenAt ps none k p
+  unfolding takenAt rowAt
+  in-store p g =
+      λ j. takenOf none k (candleFrom (pos 0) (row p (omega arith) j)) (candleFrom (pos 0) (row (p + 1) (omega arith) j)) (candleFrom (pos 0) (row (p + 2) g j))
+
+  pub store-none : (i r : ℕ) → NoneBetween (takenAt ps none k) n i r → NoneBetween (takenAt (view n ps m qs) none k) (n + m) i r
+  store-none i r g =
+      record {
+        from = g .from;
+        within = λ l. omega (arith, g .within l);
+        none = λ j x y. in-store j (omega (arith, g .within (omega arith))) ∙ g .none j x y;
+      }
 
 -- ---- the scan of the view from place lo on
 
@@ -99,30 +121,25 @@ module _ (ts us : List ℤ) (ps qs : List (List Float)) (n m lo : ℕ)
       let z = scan-turned ts us ps qs n m lo h s s' (bar p) (bar (p + 1)) (bar (p + 2)) k (w .1) (omega arith) (ap bar x) e in
       (omega arith, subst (λ (j : ℕ). Scanning ts us ps qs n m lo h s' (bar (p + 1)) (bar j) (k + 1)) y z)
 
-  row : (i : ℕ) → i < n → getD (view n ps m qs) i [] ≡ getD ps i []
-  row i g = view-left ps qs n m (h .1) (h .3) i [] g
+  abbrev rows : List (List Float)
+  rows = view n ps m qs
 
-  fractal-row : (p : ℕ) → p + 2 < n → fractalOf (bar p) (bar (p + 1)) (bar (p + 2)) ≡ fractalAt ps p
-  unfolding fractalAt rowAt
-  fractal-row p g =
-      fractal-untimed (getD (view n ts m us) p (pos 0)) (getD (view n ts m us) (p + 1) (pos 0)) (getD (view n ts m us) (p + 2) (pos 0)) (row p (omega arith)) (row (p + 1) (omega arith)) (row (p + 2) g)
+  timed : (none : Bool) (k : Mark) (p : ℕ) → takenOf none k (bar p) (bar (p + 1)) (bar (p + 2)) ≡ takenAt rows none k p
+  timed none k p = taken-timed rows none k p (bar p) (bar (p + 1)) (bar (p + 2)) _ refl (view n ts m us) refl refl refl
 
-  other-row : (k : Mark) (p : ℕ) → p + 2 < n → otherOf k (bar p) (bar (p + 1)) (bar (p + 2)) ≡ otherAt ps k p
-  unfolding otherAt rowAt
-  other-row k p g =
-      other-untimed (getD (view n ts m us) p (pos 0)) (getD (view n ts m us) (p + 1) (pos 0)) (getD (view n ts m us) (p + 2) (pos 0)) (row p (omega arith)) (row (p + 1) (omega arith)) (row (p + 2) g) k
-
-  -- a row whose window fails the test t leaves the scan as it is
+  -- a window that fails the test t leaves the scan as it is
   abbrev Passes : (ℕ → Bool) → Scan → Type 0
-  Passes t s = (p k : ℕ) → p + 2 < n → t p ≡ false → s ≡ stepOf s k (bar p) (bar (p + 1)) (bar (p + 2))
+  Passes t s = (p k : ℕ) → t p ≡ false → s ≡ stepOf s k (bar p) (bar (p + 1)) (bar (p + 2))
 
-  passed : (s : Scan) → Passes (fractalAt ps) s
-  passed s p k g e = step-none s k (bar p) (bar (p + 1)) (bar (p + 2)) (fractal-row p g ∙ e)
+  passed : (s : Scan) (j : Mark) → Passes (takenAt rows true j) s
+  unfolding takenOf
+  passed s j p k e = step-none s k (bar p) (bar (p + 1)) (bar (p + 2)) (timed true j p ∙ e)
 
-  passed-same : (s : Scan) → (s .count ≡ 0 → ⊥) → Passes (otherAt ps (s .last)) s
-  passed-same s f p k g e = step-same (s .last) s k (bar p) (bar (p + 1)) (bar (p + 2)) refl f (other-row (s .last) p g ∙ e)
+  passed-same : (s : Scan) (j : Mark) → s .last ≡ j → 0 < s .count → Passes (takenAt rows false j) s
+  unfolding takenOf
+  passed-same s j f g p k e = step-same j s k (bar p) (bar (p + 1)) (bar (p + 2)) f (λ z. omega arith) (timed false j p ∙ e)
 
-  run : (t : ℕ → Bool) (d p k r z : ℕ) (s : Scan) → p + d ≡ r → k + d ≡ z → (p < r → r + 1 < n) → (p < r → Passes t s) → ((j : ℕ) → p ≤ j → j < r → t j ≡ false) → Standing s p k → Standing s r z
+  run : (t : ℕ → Bool) (d p k r z : ℕ) (s : Scan) → p + d ≡ r → k + d ≡ z → (p < r → r + 1 < n + m) → Passes t s → ((j : ℕ) → p ≤ j → j < r → t j ≡ false) → Standing s p k → Standing s r z
   run t zero p k r z s e f b o q w =
       let x : p ≡ r = omega arith in
       let y : k ≡ z = omega arith in
@@ -130,31 +147,51 @@ module _ (ts us : List ℤ) (ps qs : List (List Float)) (n m lo : ℕ)
   run t (suc d) p k r z s e f b o q w =
       let l : p < r = omega arith in
       let g = b l in
-      run t d (p + 1) (k + 1) r z s (omega arith) (omega arith) (λ v. g) (λ v. o l) (λ j v u. q j (omega arith) u)
-      (on s s p k w (omega arith) (o l p k (omega arith) (q p (omega arith) l)))
+      run t d (p + 1) (k + 1) r z s (omega arith) (omega arith) (λ v. g) o (λ j v u. q j (omega arith) u)
+      (on s s p k w (omega arith) (o p k (q p (omega arith) l)))
 
-  ran : (t : ℕ → Bool) (s : Scan) (p k r : ℕ) → NoneBetween t n p r → (p < r → Passes t s) → Standing s p k → Standing s r (r - lo)
+  ran : (t : ℕ → Bool) (s : Scan) (p k r : ℕ) → NextWindow t (n + m) p r → Passes t s → Standing s p k → Standing s r (r - lo)
   ran t s p k r g o w =
-      let f = g .from in
+      let f = g .before .from in
       let e = w .0 in
-      run t (r - p) p k r (r - lo) s (omega arith) (omega arith) (g .within) o (g .none) w
+      run t (r - p) p k r (r - lo) s (omega arith) (omega arith) (g .before .within) o (g .before .none) w
 
-  -- the scan stands at a fractal, or at the last two rows or behind them
-  abbrev pub AtFractal : ℕ → Type 0
-  AtFractal p = p + 2 < n → fractalAt ps p ≡ true
+  first : (s : Scan) (r : ℕ) → s ≡ blank → lo + 2 ≤ n + m → NextWindow (takenAt rows true D) (n + m) lo r → Standing s r (r - lo)
+  first s r e k g =
+      ran (takenAt rows true D) s lo 0 r g (passed s D) (omega arith, scan-began ts us ps qs n m lo h s (bar lo) (bar (lo + 1)) e k refl refl)
 
-  pub windows-began : (s : Scan) (r : ℕ) → s ≡ blank → lo + 2 ≤ n + m → NextWindow (fractalAt ps) n lo r → Standing s r (r - lo) × AtFractal r
-  windows-began s r e k g =
-      (ran (fractalAt ps) s lo 0 r (g .before) (λ l. passed s) (omega arith, scan-began ts us ps qs n m lo h s (bar lo) (bar (lo + 1)) e k refl refl), g .here)
+  done : (s : Scan) (p : ℕ) → Standing s p (p - lo) → n + m ≤ p + 2 → Scanned ts us ps qs n m lo h s
+  done s p w k = let e = w .0 in scan-done ts us ps qs n m lo h s (bar p) (bar (p + 1)) (p - lo) (w .1) (omega arith)
 
-  pub windows-turned : (s s' : Scan) (a b c : Candle) (p r : ℕ) → Standing s p (p - lo) × AtFractal p → p + 2 < n + m → a ≡ bar p → b ≡ bar (p + 1) → c ≡ bar (p + 2)
-      → s' ≡ stepOf s (p - lo) a b c → NextWindow (otherAt ps (s' .last)) n (p + 1) r → Standing s' r (r - lo) × AtFractal r
-  windows-turned s s' a b c p r w k x y z e g =
-      let d : s' ≡ stepOf s (p - lo) (bar p) (bar (p + 1)) (bar (p + 2)) = e ∙ (λ j. stepOf s (p - lo) (x j) (y j) (z j)) in
-      (ran (otherAt ps (s' .last)) s' (p + 1) (p - lo + 1) r (g .before) (λ l. passed-same s' (some d (omega (arith, g .before .within l)))) (on s s' p (p - lo) (w .0) k d), λ l. other-at (s' .last) ps r (g .here l))
+  -- the scan took a fractal, and stands at the next window that it takes
+  abbrev pub Turning : Scan → ℕ → Type 0
+  Turning s p = Standing s p (p - lo) × (0 < s .count) × (p + 2 < n + m → takenAt rows false (s .last) p ≡ true)
+
+  turning : (s : Scan) (k : Mark) (p r : ℕ) → Standing s (p + 1) (p - lo + 1) → (s .last ≡ k) × (0 < s .count) → NextWindow (takenAt rows false k) (n + m) (p + 1) r → Turning s r
+  turning s k p r w l g =
+      (ran (takenAt rows false k) s (p + 1) (p - lo + 1) r g (passed-same s k (l .0) (l .1)) w, l .1, λ z. ap (λ (j : Mark). takenAt rows false j r) (l .0) ∙ g .here z)
+
+  pub windows-none : (s : Scan) (r : ℕ) → s ≡ blank → NextWindow (takenAt rows true D) (n + m) lo r → n + m ≤ r + 2 → Scanned ts us ps qs n m lo h s
+  windows-none s r e g k = by (ltb (n + m) (lo + 2)) refl
     where
-      some : s' ≡ stepOf s (p - lo) (bar p) (bar (p + 1)) (bar (p + 2)) → p + 2 < n → s' .count ≡ 0 → ⊥
-      some d l = step-some s s' (p - lo) (bar p) (bar (p + 1)) (bar (p + 2)) (fractal-row p l ∙ w .1 l) d
+      by : (b : Bool) → ltb (n + m) (lo + 2) ≡ b → Scanned ts us ps qs n m lo h s
+      by true q = scan-none ts us ps qs n m lo h s e (ltb-true (n + m) (lo + 2) q)
+      by false q = done s r (first s r e (ltb-false (n + m) (lo + 2) q) g) k
 
-  pub windows-done : (s : Scan) (p : ℕ) → Standing s p (p - lo) → n + m ≤ p + 2 → Scanned ts us ps qs n m lo h s
-  windows-done s p w k = let e = w .0 in scan-done ts us ps qs n m lo h s (bar p) (bar (p + 1)) (p - lo) (w .1) (omega arith)
+  pub windows-opened : (f : Fx) (s : Scan) (p r : ℕ) → NextWindow (takenAt rows true D) (n + m) lo p → p + 2 < n + m → f ≡ fxIn (view n ts m us) rows lo p → s ≡ openedOf f
+      → NextWindow (takenAt rows false (f .mark)) (n + m) (p + 1) r → Turning s r
+  unfolding fxIn takenOf
+  windows-opened f s p r g k e o q =
+      let x = g .before .from in
+      let d = step-first (p - lo) (bar p) (bar (p + 1)) (bar (p + 2)) f s (timed true D p ∙ g .here k) e o in
+      turning s (f .mark) p r (on blank s p (p - lo) (first blank p refl (omega arith) g) k d) (after-opened s f o) q
+
+  pub windows-put : (s s' : Scan) (f : Fx) (p r : ℕ) → Turning s p → p + 2 < n + m → f ≡ fxIn (view n ts m us) rows lo p → s' ≡ putOf s f
+      → NextWindow (takenAt rows false (f .mark)) (n + m) (p + 1) r → Turning s' r
+  unfolding fxIn takenOf
+  windows-put s s' f p r w g e o q =
+      let d = step-put (s .last) s (p - lo) (bar p) (bar (p + 1)) (bar (p + 2)) f s' refl (w .1) (timed false (s .last) p ∙ w .2 g) e o in
+      turning s' (f .mark) p r (on s s' p (p - lo) (w .0) g d) (after-put s s' f o) q
+
+  pub windows-done : (s : Scan) (p : ℕ) → Turning s p → n + m ≤ p + 2 → Scanned ts us ps qs n m lo h s
+  windows-done s p w l = done s p (w .0) l

@@ -1,7 +1,7 @@
 // check_fx of the source: three neighbouring merged bars are a top, a bottom or neither.
 ghost use mathlib.Core.Path.{_≡_};
 ghost use Rattle.machine.specs.Fractals.{sameMark, beyond};
-ghost use Rattle.check_bi.specs.Code.Scan.{fxAt, valueOf, topOf, bottomOf, fractalOf, markIf, otherOf};
+ghost use Rattle.check_bi.specs.Code.Scan.{fxAt, valueOf, topOf, bottomOf, fractalOf, markIf, otherOf, takenOf};
 use machine::Mark;
 
 // Of a merged bar, what fractals and strokes are found by.
@@ -109,6 +109,16 @@ pub fn is_other(m: Mark, a: Candle, b: Candle, c: Candle) -> bool
         Mark::D => is_top(a, b, c),
         Mark::G => is_bottom(a, b, c),
     }
+}
+
+// Whether a scan takes a, b and c: any fractal where it has taken none, or else one of the other mark than k, the last one's.
+pub fn is_taken(none: bool, k: Mark, a: Candle, b: Candle, c: Candle) -> bool
+    ensures { λ r. ⌜ r ≡ takenOf none k a b c ⌝ }
+{
+    if none {
+        return is_fractal(a, b, c);
+    }
+    is_other(k, a, b, c)
 }
 
 pub fn fx_at(i: usize, m: Mark, b: Candle) -> Fx

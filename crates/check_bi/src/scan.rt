@@ -7,14 +7,13 @@ ghost use lib.ListN.{length, getD, drop};
 ghost use lib.IntN.{pos};
 ghost use Rattle.check_bi.specs.Code.Scan.{candidateOf, cutWith, closesOf, uptoWith, putOf, noFx, blank, openedOf, takeOf, stepOf, Small, scanOf, holdsOf, foundIf, foundOf, foundFrom, FoundFits};
 ghost use Rattle.check_bi.specs.Code.View.{view, candleFrom, candles};
-ghost use Rattle.check_bi.specs.Code.Windows.{rowAt, fractalAt, otherAt, NextWindow};
+ghost use Rattle.check_bi.specs.Code.Windows.{rowAt, takenAt, fxIn, NextWindow};
 use super::check_fx::Candle;
 use super::check_fx::Fx;
 use super::check_fx::fractal_mark;
 use super::check_fx::fx_at;
 use super::check_fx::is_beyond;
-use super::check_fx::is_fractal;
-use super::check_fx::is_other;
+use super::check_fx::is_taken;
 use super::check_fx::same_mark;
 use super::check_fx::value;
 use machine::Mark;
@@ -205,19 +204,6 @@ fn take(s: Scan, f: Fx) -> Scan
     put(s, f)
 }
 
-// The window at place i.
-fn step(s: Scan, i: usize, a: Candle, b: Candle, c: Candle) -> Scan
-    requires { ⌜ Small s i ⌝ }
-    ensures { λ r. ⌜ r ≡ stepOf s i a b c ⌝ }
-{
-    if is_fractal(a, b, c) {
-        let m = fractal_mark(a, b, c);
-        let f = fx_at(i, m, b);
-        return take(s, f);
-    }
-    s
-}
-
 // The candle at a place of the view: the first n bars of the store, of times ts and prices ps, then
 // the first m of the tail, of times us and prices qs.
 pub fn candle_at(
@@ -277,25 +263,25 @@ fn row_at(ps: &[[f64; 6]], i: usize) -> Candle
     }
 }
 
-// Whether the window at row i is a top or a bottom.
-fn fractal_at(ps: &[[f64; 6]], i: usize) -> bool
+// Whether a scan takes the window at row i.
+fn taken_at(ps: &[[f64; 6]], none: bool, k: Mark, i: usize) -> bool
     requires { ⌜ (i + 2 < length (now ps)) × (i < 4294967296) ⌝ }
-    ensures { λ r. ⌜ r ≡ fractalAt (now (ps .entry)) i ⌝ }
+    ensures { λ r. ⌜ r ≡ takenAt (now (ps .entry)) none k i ⌝ }
 {
     let a = row_at(ps, i);
     let b = row_at(ps, i + 1);
     let c = row_at(ps, i + 2);
-    is_fractal(a, b, c)
+    is_taken(none, k, a, b, c)
 }
 
-// The first window of the first n rows, from row i on, that is a top or a bottom.
-fn next_fractal(ps: &[[f64; 6]], n: usize, i: usize) -> usize
+// The first window of the first n rows, from row i on, that a scan takes.
+fn next_row(ps: &[[f64; 6]], none: bool, k: Mark, n: usize, i: usize) -> usize
     requires { ⌜ (n ≤ length (now ps)) × (n < 4294967296) × (i < 4294967296) ⌝ }
-    ensures { λ r. ⌜ NextWindow (fractalAt (now (ps .entry))) n i r ⌝ }
+    ensures { λ r. ⌜ NextWindow (takenAt (now (ps .entry)) none k) n i r ⌝ }
 {
     let mut j = i;
     while j + 2 < n {
-        if fractal_at(ps, j) {
+        if taken_at(ps, none, k, j) {
             return j;
         } else {
             j += 1;
@@ -304,32 +290,73 @@ fn next_fractal(ps: &[[f64; 6]], n: usize, i: usize) -> usize
     j
 }
 
-// Whether the window at row i is a fractal of the other mark than k.
-fn other_at(ps: &[[f64; 6]], k: Mark, i: usize) -> bool
-    requires { ⌜ (i + 2 < length (now ps)) × (i < 4294967296) ⌝ }
-    ensures { λ r. ⌜ r ≡ otherAt (now (ps .entry)) k i ⌝ }
+// Whether a scan takes the window at place i of the view.
+fn taken_in(
+    ts: &[i64],
+    ps: &[[f64; 6]],
+    us: &[i64],
+    qs: &[[f64; 6]],
+    n: usize,
+    m: usize,
+    none: bool,
+    k: Mark,
+    i: usize,
+) -> bool
+    requires { ⌜ (n ≤ length (now ts)) × (n ≤ length (now ps)) × (m ≤ length (now us)) × (m ≤ length (now qs)) × (n + m < 4294967296) × (i + 2 < n + m) ⌝ }
+    ensures { λ r. ⌜ r ≡ takenAt (view n (now (ps .entry)) m (now (qs .entry))) none k i ⌝ }
 {
-    let a = row_at(ps, i);
-    let b = row_at(ps, i + 1);
-    let c = row_at(ps, i + 2);
-    is_other(k, a, b, c)
+    let a = candle_at(ts, ps, us, qs, n, m, i);
+    let b = candle_at(ts, ps, us, qs, n, m, i + 1);
+    let c = candle_at(ts, ps, us, qs, n, m, i + 2);
+    is_taken(none, k, a, b, c)
 }
 
-// The first window of the first n rows, from row i on, that is a fractal of the other mark than k. The scan, which is large, is not
-// moved for the others.
-fn next_other(ps: &[[f64; 6]], k: Mark, n: usize, i: usize) -> usize
-    requires { ⌜ (n ≤ length (now ps)) × (n < 4294967296) × (i < 4294967296) ⌝ }
-    ensures { λ r. ⌜ NextWindow (otherAt (now (ps .entry)) k) n i r ⌝ }
+// The first window of the view, from place i on, that a scan takes: of the rows that lie in the store, then of those that reach into the tail.
+fn next_window(
+    ts: &[i64],
+    ps: &[[f64; 6]],
+    us: &[i64],
+    qs: &[[f64; 6]],
+    n: usize,
+    m: usize,
+    none: bool,
+    k: Mark,
+    i: usize,
+) -> usize
+    requires { ⌜ (n ≤ length (now ts)) × (n ≤ length (now ps)) × (m ≤ length (now us)) × (m ≤ length (now qs)) × (n + m < 4294967296) × (i < 4294967296) ⌝ }
+    ensures { λ r. ⌜ NextWindow (takenAt (view n (now (ps .entry)) m (now (qs .entry))) none k) (n + m) i r ⌝ }
 {
-    let mut j = i;
-    while j + 2 < n {
-        if other_at(ps, k, j) {
+    let total = n + m;
+    let mut j = next_row(ps, none, k, n, i);
+    while j + 2 < total {
+        if taken_in(ts, ps, us, qs, n, m, none, k, j) {
             return j;
         } else {
             j += 1;
         }
     }
     j
+}
+
+// The fractal at place i of the view; its place is counted from lo.
+fn fractal_in(
+    ts: &[i64],
+    ps: &[[f64; 6]],
+    us: &[i64],
+    qs: &[[f64; 6]],
+    n: usize,
+    m: usize,
+    lo: usize,
+    i: usize,
+) -> Fx
+    requires { ⌜ (n ≤ length (now ts)) × (n ≤ length (now ps)) × (m ≤ length (now us)) × (m ≤ length (now qs)) × (n + m < 4294967296) × (i + 2 < n + m) × (lo ≤ i) ⌝ }
+    ensures { λ r. ⌜ r ≡ fxIn (view n (now (ts .entry)) m (now (us .entry))) (view n (now (ps .entry)) m (now (qs .entry))) lo i ⌝ }
+{
+    let a = candle_at(ts, ps, us, qs, n, m, i);
+    let b = candle_at(ts, ps, us, qs, n, m, i + 1);
+    let c = candle_at(ts, ps, us, qs, n, m, i + 2);
+    let k = fractal_mark(a, b, c);
+    fx_at(i - lo, k, b)
 }
 
 // All windows of the view from place lo on. Places are counted from there.
@@ -346,19 +373,21 @@ pub fn scan_from(
     ensures { λ r. ⌜ r ≡ scanOf (drop lo (candles (view n (now (ts .entry)) m (now (us .entry))) (view n (now (ps .entry)) m (now (qs .entry))))) ⌝ }
     ensures { λ r. ⌜ Small r (n + m - lo) × (r .found ≡ true → r .end .place + 2 < n + m - lo) ⌝ }
 {
-    let mut s = blank_scan();
     let total = n + m;
-    if total < lo + 2 {
-        return s;
+    let d = Mark::D;
+    let first = next_window(ts, ps, us, qs, n, m, true, d, lo);
+    if total <= first + 2 {
+        return blank_scan();
     }
-    let mut at = next_fractal(ps, n, lo);
+    let g = fractal_in(ts, ps, us, qs, n, m, lo, first);
+    let mut s = opened(g);
+    let k = g.mark;
+    let mut at = next_window(ts, ps, us, qs, n, m, false, k, first + 1);
     while at + 2 < total {
-        let a = candle_at(ts, ps, us, qs, n, m, at);
-        let b = candle_at(ts, ps, us, qs, n, m, at + 1);
-        let c = candle_at(ts, ps, us, qs, n, m, at + 2);
-        s = step(s, at - lo, a, b, c);
-        let k = s.last;
-        at = next_other(ps, k, n, at + 1);
+        let f = fractal_in(ts, ps, us, qs, n, m, lo, at);
+        s = put(s, f);
+        let j = f.mark;
+        at = next_window(ts, ps, us, qs, n, m, false, j, at + 1);
     }
     s
 }

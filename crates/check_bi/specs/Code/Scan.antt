@@ -66,6 +66,12 @@ unfolding topOf bottomOf
 otherOf D a b c = topOf a b c
 otherOf G a b c = bottomOf a b c
 
+-- whether a scan takes it: any fractal if it has taken none, or else one of the other mark than k, the last one's
+unfoldable pub takenOf : Bool → Mark → Candle → Candle → Candle → Bool
+unfolding fractalOf otherOf
+takenOf true k a b c = fractalOf a b c
+takenOf false k a b c = otherOf k a b c
+
 -- ---- a fractal that is taken
 
 -- it has the other mark than the start, a later time, and is strictly beyond it
