@@ -82,6 +82,7 @@ pub fn is_bottom(a: Candle, b: Candle, c: Candle) -> bool
     false
 }
 
+// Whether they are a top or a bottom.
 pub fn is_fractal(a: Candle, b: Candle, c: Candle) -> bool
     ensures { λ r. ⌜ r ≡ fractalOf a b c ⌝ }
 {
@@ -91,7 +92,7 @@ pub fn is_fractal(a: Candle, b: Candle, c: Candle) -> bool
     is_bottom(a, b, c)
 }
 
-// The mark of a fractal.
+// The mark, where they are a fractal.
 pub fn fractal_mark(a: Candle, b: Candle, c: Candle) -> Mark
     ensures { λ r. ⌜ r ≡ markIf (topOf a b c) ⌝ }
 {
@@ -101,7 +102,7 @@ pub fn fractal_mark(a: Candle, b: Candle, c: Candle) -> Mark
     Mark::D
 }
 
-// Whether a fractal of the other mark than m.
+// Whether they are a fractal of the other mark than m.
 pub fn is_other(m: Mark, a: Candle, b: Candle, c: Candle) -> bool
     ensures { λ r. ⌜ r ≡ otherOf m a b c ⌝ }
 {

@@ -5,7 +5,7 @@ ghost use mathlib.Core.List.{[]};
 ghost use Prim.Native.Nat.{_+_, _-_, _≤_, _<_};
 ghost use lib.ListN.{length, getD, drop};
 ghost use lib.IntN.{pos};
-ghost use Rattle.check_bi.specs.Code.Scan.{candidateOf, cutWith, closesOf, uptoWith, putOf, noFx, blank, openedOf, takeOf, stepOf, Small, scanOf, holdsOf, foundIf, foundOf, foundFrom, FoundFits};
+ghost use Rattle.check_bi.specs.Code.Scan.{candidateOf, cutWith, closesOf, uptoWith, putOf, noFx, blank, openedOf, Small, scanOf, holdsOf, foundIf, foundOf, foundFrom, FoundFits};
 ghost use Rattle.check_bi.specs.Code.View.{view, candleFrom, candles};
 ghost use Rattle.check_bi.specs.Code.Windows.{rowAt, takenAt, fxIn, NextWindow};
 use super::check_fx::Candle;
@@ -188,22 +188,6 @@ fn opened(f: Fx) -> Scan
     }
 }
 
-// A fractal is taken, unless it has the mark of the last one taken.
-fn take(s: Scan, f: Fx) -> Scan
-    requires { ⌜ Small s (f .place) ⌝ }
-    ensures { λ r. ⌜ r ≡ takeOf s f ⌝ }
-{
-    if s.count == 0 {
-        return opened(f);
-    }
-    let last = s.last;
-    let m = f.mark;
-    if same_mark(last, m) {
-        return s;
-    }
-    put(s, f)
-}
-
 // The candle at a place of the view: the first n bars of the store, of times ts and prices ps, then
 // the first m of the tail, of times us and prices qs.
 pub fn candle_at(
@@ -311,7 +295,8 @@ fn taken_in(
     is_taken(none, k, a, b, c)
 }
 
-// The first window of the view, from place i on, that a scan takes: of the rows that lie in the store, then of those that reach into the tail.
+// The first window of the view, from place i on, that a scan takes: one that lies in the store's rows, or else one that reaches into the tail. The scan,
+// which is large, is moved for these windows only.
 fn next_window(
     ts: &[i64],
     ps: &[[f64; 6]],
