@@ -1,5 +1,5 @@
-// Rows of one column copied or moved: a function of each kind for each column. All of them say `copied`,
-// of the rows or of what is in use of them.
+// Rows of one column copied or moved: a function of each kind for each column. All of these say `copied`,
+// of the rows or of what is in use of them. And one more element in a row.
 ghost use mathlib.Core.Path.{_≡_};
 ghost use mathlib.Core.List.{[], _∷_, _++_};
 ghost use Prim.Native.Nat.{_+_, _≤_, _<_, min};
