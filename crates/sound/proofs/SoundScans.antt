@@ -34,6 +34,13 @@ module _ {A : Type 0} (p : A → Bool) where
       ap (λ (y : Bool). y && every p (drop (i + 1) v)) (f ∙ ap (λ (y : Bool). ok && y) e)
       ∙ sym (and-assoc ok (p (getD v i z)) (every p (drop (i + 1) v))) ∙ sym (ap (λ (y : Bool). ok && y) d) ∙ g
 
+  -- a turn that goes on only where the element at i passes
+  pub every-on : (v : List A) (i : ℕ) (z : A) (x r : Bool) → i < length v → x ≡ p (getD v i z) → every p (drop i v) ≡ r → x ≡ true → every p (drop (i + 1) v) ≡ r
+  every-on v i z x r h e g t = sym (ap (λ (y : Bool). y && every p (drop (i + 1) v)) t) ∙ every-turn v i z true x x r h e refl g
+
+  pub every-stop : (v : List A) (i : ℕ) (z : A) (x r : Bool) → i < length v → x ≡ p (getD v i z) → every p (drop i v) ≡ r → x ≡ false → false ≡ r
+  every-stop v i z x r h e g t = sym (ap (λ (y : Bool). y && every p (drop (i + 1) v)) t) ∙ every-turn v i z true x x r h e refl g
+
   every-short : (l : List A) → length l ≤ 0 → every p l ≡ true
   unfolding every
   every-short [] h = refl

@@ -1,6 +1,6 @@
 // Question 4 of document 01: is the stand sound? A scan puts its tests together as flags, without a
-// branch, and looks only at the columns that its clause speaks of. The scan of times stops at the
-// first that is not later: without a branch, a compare of two i64s takes several instructions.
+// branch, and looks only at the columns that its clause speaks of. The scans of times stop at the
+// first that fails: without a branch, a compare of two i64s takes several instructions.
 ghost use mathlib.Core.Path.{_≡_};
 ghost use mathlib.Core.Bool.{false, _&&_};
 ghost use mathlib.Core.List.{[], _∷_, map};
@@ -275,13 +275,14 @@ fn stamps_in_time(t: &[i64]) -> bool
 fn stamps_pass(fs: &[[i64; 6]]) -> bool
     ensures { λ r. ⌜ r ≡ every stampsPass (now (fs .entry)) ⌝ }
 {
-    let mut ok = true;
     let mut i: usize = 0;
     while i < fs.len() {
-        ok = both(ok, stamps_in_time(&fs[i]));
+        if !stamps_in_time(&fs[i]) {
+            return false;
+        }
         i += 1;
     }
-    ok
+    true
 }
 
 // The prices of a fractal's three bars.
