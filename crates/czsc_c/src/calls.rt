@@ -25,7 +25,7 @@ pub extern "C" fn czsc_fresh(
     minimum: usize,
     most: usize,
     numbers: &mut [[usize; 8]],
-    counts: &mut [[usize; 65]],
+    counts: &mut [[u32; 65]],
     rt: &[i64],
     ri: &[i32],
     rp: &[[f64; 6]],
@@ -78,7 +78,7 @@ pub extern "C" fn czsc_fresh(
 // What a feed is refused with before the bar is looked at: 4 where no stand is there or it is not sound, 14 where its answer has no place.
 fn failed_before(
     numbers: &[[usize; 8]],
-    counts: &[[usize; 65]],
+    counts: &[[u32; 65]],
     events: &[[u64; 3]],
     rt: &[i64],
     ri: &[i32],
@@ -131,7 +131,7 @@ fn failed_before(
 // The feed of a packed stand that is sound, with a place for its answer.
 fn update_packed(
     numbers: &mut [[usize; 8]],
-    counts: &mut [[usize; 65]],
+    counts: &mut [[u32; 65]],
     events: &mut [[u64; 3]],
     rt: &mut [i64],
     ri: &mut [i32],
@@ -180,7 +180,7 @@ fn update_packed(
 #[no_mangle]
 pub extern "C" fn czsc_update_bar(
     numbers: &mut [[usize; 8]],
-    counts: &mut [[usize; 65]],
+    counts: &mut [[u32; 65]],
     events: &mut [[u64; 3]],
     rt: &mut [i64],
     ri: &mut [i32],
@@ -269,7 +269,7 @@ fn failed_first(
     minimum: usize,
     most: usize,
     numbers: &[[usize; 8]],
-    counts: &[[usize; 65]],
+    counts: &[[u32; 65]],
     sums: &[[u64; 4]],
     rt: &[i64],
     ri: &[i32],
@@ -326,7 +326,7 @@ fn feed_packed(
     minimum: usize,
     most: usize,
     numbers: &mut [[usize; 8]],
-    counts: &mut [[usize; 65]],
+    counts: &mut [[u32; 65]],
     sums: &mut [[u64; 4]],
     rt: &mut [i64],
     ri: &mut [i32],
@@ -381,7 +381,7 @@ pub extern "C" fn czsc_feed_all(
     minimum: usize,
     most: usize,
     numbers: &mut [[usize; 8]],
-    counts: &mut [[usize; 65]],
+    counts: &mut [[u32; 65]],
     sums: &mut [[u64; 4]],
     rt: &mut [i64],
     ri: &mut [i32],

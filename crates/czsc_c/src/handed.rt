@@ -36,7 +36,7 @@ fn put_sums(sums: &mut [[u64; 4]], made: u64, broken: u64, shed: u64, fed: usize
 pub fn hand_over(
     r: FeedAnswer,
     numbers: &mut [[usize; 8]],
-    counts: &mut [[usize; 65]],
+    counts: &mut [[u32; 65]],
     events: &mut [[u64; 3]],
 ) -> u64
     requires { ⌜ (1 ≤ length (now numbers)) × (2 ≤ length (now counts)) × (1 ≤ length (now events)) ⌝ }
@@ -56,7 +56,7 @@ pub fn hand_over(
 pub fn hand_over_all(
     r: BatchAnswer,
     numbers: &mut [[usize; 8]],
-    counts: &mut [[usize; 65]],
+    counts: &mut [[u32; 65]],
     sums: &mut [[u64; 4]],
 ) -> u64
     requires { ⌜ (1 ≤ length (now numbers)) × (2 ≤ length (now counts)) × (1 ≤ length (now sums)) ⌝ }

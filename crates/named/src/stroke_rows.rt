@@ -27,8 +27,8 @@ pub fn rows_of(stand: Stand, place: usize) -> StrokeRows
     let counts = stand.bars;
     let fractals = stand.fractals;
     let first = strokes::total_bars(counts, place);
-    let n = counts[place];
-    let m = fractals[place];
+    let n = counts[place] as usize;
+    let m = fractals[place] as usize;
     StrokeRows {
         first,
         bars: n,

@@ -288,8 +288,9 @@ fn strokes_lines(
         if stand.strokes <= i {
             return;
         }
-        let n = bars[i];
-        stroke_lines(rt, raw, st, si, sp, sc, se, fs, fp, at, n, fractals[i]);
+        let n = bars[i] as usize;
+        let m = fractals[i] as usize;
+        stroke_lines(rt, raw, st, si, sp, sc, se, fs, fp, at, n, m);
         if st.len() < n {
             return;
         }

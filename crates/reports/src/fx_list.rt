@@ -144,8 +144,8 @@ pub fn step_strokes(
     s: Listed,
     fs: &[[i64; 6]],
     fp: &[[f64; 18]],
-    bars: [usize; 65],
-    fractals: [usize; 65],
+    bars: [u32; 65],
+    fractals: [u32; 65],
     k: usize,
 ) -> Listed
     requires { ⌜ (k ≤ 65) × (length (now fp) ≡ length (now fs)) × (length (now fs) ≤ 65536) × (total (take k bars) ≤ length (now fs)) ⌝ ∗ ⌜ Fewer (take k bars) (take k fractals) ⌝ ∗ ⌜ CanList write (listing (now os) (now op) s) (strokeRows (take k bars) (take k fractals) (storedFractals (fractalsHeld fs fp))) ⌝ }
@@ -155,8 +155,8 @@ pub fn step_strokes(
     let mut at: usize = 0;
     let mut i: usize = 0;
     while i < k {
-        let n = bars[i];
-        let m = fractals[i];
+        let n = bars[i] as usize;
+        let m = fractals[i] as usize;
         r = step_stroke(os, op, write, r, fs, fp, at, m);
         at += n;
         i += 1;

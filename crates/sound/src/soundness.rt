@@ -489,17 +489,18 @@ pub fn is_setting(n: usize) -> bool
 
 // The first n numbers together are at most `room`: what is left of it is counted down, since a sum
 // could be too large for a usize.
-fn total_fits(bars: [usize; 65], n: usize, room: usize) -> bool
+fn total_fits(bars: [u32; 65], n: usize, room: usize) -> bool
     requires { ⌜ n ≤ 65 ⌝ }
     ensures { λ r. ⌜ (r ≡ leb (total (take n bars)) room) × (length bars ≡ 65) ⌝ }
 {
     let mut left = room;
     let mut i: usize = 0;
     while i < n {
-        if left < bars[i] {
+        let count = bars[i] as usize;
+        if left < count {
             return false;
         }
-        left -= bars[i];
+        left -= count;
         i += 1;
     }
     true
@@ -613,8 +614,8 @@ fn stroke_pass(
 fn strokes_pass(
     rt: &[i64],
     n: usize,
-    bars: [usize; 65],
-    fractals: [usize; 65],
+    bars: [u32; 65],
+    fractals: [u32; 65],
     st: &[i64],
     sp: &[[f64; 6]],
     sc: &[usize],
@@ -629,8 +630,8 @@ fn strokes_pass(
     let mut from: usize = 0;
     let mut k: usize = 0;
     while k < n {
-        let b = bars[k];
-        let f = fractals[k];
+        let b = bars[k] as usize;
+        let f = fractals[k] as usize;
         if b <= f {
             return false;
         }
@@ -705,8 +706,8 @@ fn strokes_sound(
     n: usize,
     most: usize,
     k: usize,
-    bars: [usize; 65],
-    fractals: [usize; 65],
+    bars: [u32; 65],
+    fractals: [u32; 65],
     st: &[i64],
     sp: &[[f64; 6]],
     sc: &[usize],

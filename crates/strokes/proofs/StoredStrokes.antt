@@ -456,6 +456,10 @@ module _ (s : Stand) (u k : MergedStore) (f : FractalStore) (first bars : ℕ) (
       let d = g .fits in
       room-fractals f (s .rooms .strokes) (t + (e - first) - 2) (h .fractals) (omega arith)
 
+  -- both counts of the new stroke fit the stand's
+  pub counts-fit : (e m : ℕ) → e ≡ windowsEnd first bars (s .unfinished) → m ≡ length (fractalsBetween (rawPart u) first e) → (s .strokes ≤ 64) × (bars < 4294967296) × (m < 4294967296)
+  counts-fit e m ee em = let a = written-few u first bars (s .unfinished) e ee in let b = g .few in (g .strokes, b, omega arith)
+
   lower : length (mergedBars u) ≡ s .rooms .unfinished
   lower = merged-length u (s .rooms .unfinished) (g .merged)
 

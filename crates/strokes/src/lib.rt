@@ -34,6 +34,6 @@ pub struct Stand {
     pub raw: usize,
     pub unfinished: usize,
     pub strokes: usize,
-    pub bars: [usize; 65],
-    pub fractals: [usize; 65],
+    pub bars: [u32; 65],
+    pub fractals: [u32; 65],
 }

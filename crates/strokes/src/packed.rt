@@ -8,7 +8,7 @@ use crate::Rooms;
 use crate::Stand;
 
 // Whether so many rows of numbers and of counts hold a stand.
-pub fn rows_there(numbers: &[[usize; 8]], counts: &[[usize; 65]]) -> bool
+pub fn rows_there(numbers: &[[usize; 8]], counts: &[[u32; 65]]) -> bool
     ensures { λ r. ⌜ r ≡ rowsThere (now (numbers .entry)) (now (counts .entry)) ⌝ }
 {
     if numbers.len() < 1 {
@@ -17,7 +17,7 @@ pub fn rows_there(numbers: &[[usize; 8]], counts: &[[usize; 65]]) -> bool
     2 <= counts.len()
 }
 
-fn stand_of(n: [usize; 8], bars: [usize; 65], fractals: [usize; 65]) -> Stand
+fn stand_of(n: [usize; 8], bars: [u32; 65], fractals: [u32; 65]) -> Stand
     ensures { λ r. ⌜ r ≡ standOf n bars fractals ⌝ }
 {
     let rooms = Rooms {
@@ -37,7 +37,7 @@ fn stand_of(n: [usize; 8], bars: [usize; 65], fractals: [usize; 65]) -> Stand
     }
 }
 
-pub fn unpack(numbers: &[[usize; 8]], counts: &[[usize; 65]]) -> Stand
+pub fn unpack(numbers: &[[usize; 8]], counts: &[[u32; 65]]) -> Stand
     requires { ⌜ (1 ≤ length (now numbers)) × (2 ≤ length (now counts)) ⌝ }
     ensures { λ r. ⌜ r ≡ packed (now (numbers .entry)) (now (counts .entry)) ⌝ }
 {
@@ -47,7 +47,7 @@ pub fn unpack(numbers: &[[usize; 8]], counts: &[[usize; 65]]) -> Stand
     stand_of(n, bars, fractals)
 }
 
-pub fn pack(stand: Stand, numbers: &mut [[usize; 8]], counts: &mut [[usize; 65]])
+pub fn pack(stand: Stand, numbers: &mut [[usize; 8]], counts: &mut [[u32; 65]])
     requires { ⌜ (1 ≤ length (now numbers)) × (2 ≤ length (now counts)) ⌝ }
     ensures { λ _. ⌜ (now (numbers .exit) ≡ numbersWith stand (now (numbers .entry))) × (now (counts .exit) ≡ countsWith stand (now (counts .entry))) ⌝ }
 {

@@ -185,15 +185,29 @@ pub fn check_fxs(
 
 // ---- the counts of the kept strokes
 
+// A count of a stroke's bars or fractals, which the stand has as a u32: its two arrays are copied with it, and of usizes they would be twice as large.
+fn wide(count: u32) -> usize
+    ensures { λ r. ⌜ r ≡ count ⌝ }
+{
+    count as usize
+}
+
+fn narrow(count: usize) -> u32
+    requires { ⌜ count < 4294967296 ⌝ }
+    ensures { λ r. ⌜ r ≡ count ⌝ }
+{
+    count as u32
+}
+
 // The first n numbers of bars, added up: where the next stroke begins.
-pub fn total_bars(counts: [usize; 65], n: usize) -> usize
+pub fn total_bars(counts: [u32; 65], n: usize) -> usize
     requires { ⌜ n ≤ 65 ⌝ ∗ ⌜ total (take n counts) < 9223372036854775808 ⌝ }
     ensures { λ r. ⌜ r ≡ total (take n counts) ⌝ }
 {
     let mut sum: usize = 0;
     let mut i: usize = 0;
     while i < n {
-        let count = counts[i];
+        let count = wide(counts[i]);
         sum += count;
         i += 1;
     }
@@ -201,7 +215,7 @@ pub fn total_bars(counts: [usize; 65], n: usize) -> usize
 }
 
 // All counts one place down.
-fn one_down(counts: [usize; 65]) -> [usize; 65]
+fn one_down(counts: [u32; 65]) -> [u32; 65]
     ensures { λ r. ⌜ r ≡ shifted counts ⌝ }
 {
     let mut r = counts;
@@ -238,15 +252,15 @@ fn shed_counts(stand: Stand) -> Stand
 
 // The stand with one stroke more.
 fn with_stroke(stand: Stand, n: usize, m: usize) -> Stand
-    requires { ⌜ stand .strokes ≤ 64 ⌝ }
+    requires { ⌜ (stand .strokes ≤ 64) × (n < 4294967296) × (m < 4294967296) ⌝ }
     ensures { λ r. ⌜ (r ≡ withStroke stand n m) × (barCounts r ≡ barCounts stand ++ n ∷ []) × (fractalCounts r ≡ fractalCounts stand ++ m ∷ []) × (length (barCounts stand) ≡ length (fractalCounts stand)) ⌝ }
 {
     let mut bars = stand.bars;
     let mut fractals = stand.fractals;
     let rooms = stand.rooms;
     let at = stand.strokes;
-    bars[at] = n;
-    fractals[at] = m;
+    bars[at] = narrow(n);
+    fractals[at] = narrow(m);
     Stand {
         minimum: stand.minimum,
         most: stand.most,
@@ -330,8 +344,8 @@ pub fn last_stroke(stand: Stand, st: &[i64], fp: &[[f64; 18]]) -> LastStroke
     let fractals = stand.fractals;
     let n = stand.strokes - 1;
     let place = total_bars(counts, n);
-    let bars = counts[n];
-    let m = fractals[n];
+    let bars = counts[n] as usize;
+    let m = fractals[n] as usize;
     let e = end_index(m);
     let i = place + e;
     let j = place + bars - 2;
@@ -369,7 +383,7 @@ impl Stand {
         let bars = self.bars;
         let n = self.strokes;
         let used = total_bars(bars, n);
-        let first = bars[0];
+        let first = bars[0] as usize;
         move_strokes_down(st, si, sp, sc, se, fs, fp, first, used - first);
         shed_counts(self)
     }

@@ -174,7 +174,7 @@ module _ (s : Stand) (u k : MergedStore) (f : FractalStore) (p : Plan) (h : CanM
       let sum = bars-are (barCounts s) (fractalCounts s) (mergedBars k) (storedFractals f) (counts-alike s lb lf) (rw (merged-length k (s .rooms .strokes) (kept .merged)) fit) in
       record {
         kept = kept;
-        makes = λ t. record { strokes = omega arith; merged = h .unfinished; unfinished = h .fits; inside = omega (arith, makes .inside t, long); fits = omega (arith, sum, plan .planned .counts, room) };
+        makes = λ t. record { strokes = omega arith; merged = h .unfinished; unfinished = h .fits; inside = omega (arith, makes .inside t, long); fits = omega (arith, sum, plan .planned .counts, room); few = omega (arith, makes .inside t, long, h .fits, h .small) };
       }
 
   -- where the last stroke breaks

@@ -322,6 +322,7 @@ module _ (s : Stand) (m : Stores) (b : Bar) (later : Bool) (p : Plan) (h : CanWr
         let at = F .at-most in
         let top = F .most .to in
         let mo = most1 in
+        let ro = F .room-unfinished .to in
         record {
           unfinished = subst (λ (x : Rooms). SizedMerged u (x .unfinished)) (sym rooms1) (q .sized);
           fits = omega arith;
@@ -332,6 +333,7 @@ module _ (s : Stand) (m : Stores) (b : Bar) (later : Bool) (p : Plan) (h : CanWr
           plan = h .plan-is ∙ plan-same ∙ sym (λ i. planWith (minimum1 i) (list1 i) (strokes1 i));
           joins = subst T (sym (λ i. movedFits ((rooms1 i) .unfinished) (moved-is i))) (eleven .1);
           room = omega (arith, ap (λ (x : Moved). barsOf (x .kept)) made-is, twelve);
+          small = omega arith;
         }
 
     module _ (w : Wrote) (u' k' : MergedStore) (f' : FractalStore) (g : HasMoved v u K R w u' k' f') where

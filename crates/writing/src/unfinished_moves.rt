@@ -78,7 +78,7 @@ fn join_last(
     let counts = stand.bars;
     let n = stand.strokes - 1;
     let at = strokes::total_bars(counts, n);
-    let rows = counts[n];
+    let rows = counts[n] as usize;
     stand.join_broken(ut, ui, up, uc, ue, st, si, sp, sc, se, at, rows)
 }
 

@@ -100,7 +100,7 @@ fn put_fakes(
     let counts = stand.bars;
     let fractals = stand.fractals;
     let place = strokes::total_bars(counts, i);
-    let m = fractals[i];
+    let m = fractals[i] as usize;
     let n = fake_count(m);
     write_fakes(fs, fp, place, n, ot, op, od);
     n
@@ -133,7 +133,7 @@ fn list_fakes(
     ensures { λ r. ⌜ fakesCall (r .failed) (r .count) (fakesAfter ot op od) ≡ fakesIf (fakesFit (fakesBefore ot op od) (readFakes stand (fractalsBefore fs fp) i)) (fakesBefore ot op od) (readFakes stand (fractalsBefore fs fp) i) ⌝ }
 {
     let fractals = stand.fractals;
-    let m = fractals[i];
+    let m = fractals[i] as usize;
     let n = fake_count(m);
     if fits(n, ot.len(), op.len(), od.len()) {
         let count = put_fakes(stand, fs, fp, i, ot, op, od);

@@ -39,7 +39,7 @@ pub fn summary_at(stand: Stand, fs: &[[i64; 6]], fp: &[[f64; 18]], i: usize) -> 
     let counts = stand.bars;
     let fractals = stand.fractals;
     let place = strokes::total_bars(counts, i);
-    let m = fractals[i];
+    let m = fractals[i] as usize;
     let e = end_index(m);
     let end = place + e;
     let mark = mark_at(fp, place);

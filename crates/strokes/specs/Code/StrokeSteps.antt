@@ -1,6 +1,6 @@
 -- How the stroke store is written: the rows of a fractal, the fractals of a run of bars one after the other, as check_fxs takes them, a stroke that is made, and
 -- the oldest one shed. Definitions only.
-use Prim.Native.Nat.{ℕ, zero, suc, _+_, _-_, _*_, _/_, _≤_}
+use Prim.Native.Nat.{ℕ, zero, suc, _+_, _-_, _*_, _/_, _≤_, _<_}
 use mathlib.Core.Bool.{Bool, true, false}
 use mathlib.Core.List.{List, [], _∷_, _++_, map}
 use mathlib.Core.Option.{Option, none, some}
@@ -196,6 +196,7 @@ pub record Makeable (s : Stand) (u : MergedStore) (first bars : ℕ) : Type 0 wh
   pub unfinished : s .unfinished ≤ s .rooms .unfinished
   pub inside : first + bars ≤ s .unfinished
   pub fits : total (barCounts s) + bars ≤ s .rooms .strokes
+  pub few : bars < 4294967296
 
 -- of a stand and its stroke store: the stroke is put on
 pub record Made (s : Stand) (u k : MergedStore) (f : FractalStore) (first bars : ℕ) (r : Stand) (k' : MergedStore) (f' : FractalStore) : Type 0 where

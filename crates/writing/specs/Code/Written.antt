@@ -1,5 +1,5 @@
 -- What a feed of a bar that passed its questions writes to the lent stores: the plain machine's step. Definitions only.
-use Prim.Native.Nat.{ℕ, _≤_}
+use Prim.Native.Nat.{ℕ, _≤_, _<_}
 use mathlib.Core.Bool.{Bool, true, false}
 use mathlib.Core.List.{List, map}
 use mathlib.Core.Path.{_≡_}
@@ -53,6 +53,7 @@ pub record CanMove (s : Stand) (u k : MergedStore) (f : FractalStore) (p : Plan)
   pub plan : p ≡ planWith (s .minimum) (keptUnfinished s u) (keptStrokes s k f)
   pub joins : T (movedFits (s .rooms .unfinished) (movedOf s u k f))
   pub room : barsOf ((madeOf s u k f) .kept) ≤ s .rooms .strokes
+  pub small : s .rooms .unfinished < 4294967296
 
 -- before a stroke is shed. The stores do not keep the elements of fractals' bars.
 pub record HasLeft (s : Stand) (u k : MergedStore) (f : FractalStore) (r : Stand) (u' k' : MergedStore) (f' : FractalStore) : Type 0 where

@@ -1,4 +1,4 @@
-use Rattle.strokes.proofs.StoredStrokes.{make-rooms, end-after, window-room, fractal-room, made-means}
+use Rattle.strokes.proofs.StoredStrokes.{make-rooms, end-after, window-room, fractal-room, counts-fit, made-means}
 use Rattle.strokes.specs.StateRead.{barCounts}
 use native.Mathlib.Omega.{arith}
 use borrow.Author.Needs.{needs}
@@ -28,7 +28,10 @@ check-fxs-requires c κs =
     )
 
 with-stroke-requires : tie.Need-with-stroke-requires
-with-stroke-requires c κs = c .before .before .before .before .before .before .before .before .before .before .before .before .before .before .before .before .before .before .before .before .before .before .pre .0 .strokes
+with-stroke-requires c κs =
+    let a = c .before .before .before .before .before .before .before .before .before .before .before .before .before .before .before .before .before .before .before .before .before .before .args in
+    let p = c .before .before .before .before .before .before .before .before .before .before .before .before .before .before .before .before .before .before .before .before .before .before .pre in
+    counts-fit (a .self) _ _ _ (a .first) (a .bars) (p .1) (p .0) (c .before .before .before .before .before .before .before .before .before .before .before .before .before .before .before .before .before .windows-end .result) (c .before .before .check-fxs .result) (c .before .before .before .before .before .before .before .before .before .before .before .before .before .before .before .before .before .windows-end .ensures) (c .before .before .check-fxs .ensures .0)
 
 same-length : tie.Need-same-length
 same-length c = search needs

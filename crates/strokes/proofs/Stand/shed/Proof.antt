@@ -12,6 +12,9 @@ total-bars-requires c κs = let k = c .before .before .pre .1 in let t = k .merg
 array-read-first : tie.Need-array-read-first
 array-read-first c = search needs
 
+cast-first : tie.Need-cast-first
+cast-first c = search needs
+
 sub-move-strokes-down : tie.Need-sub-move-strokes-down
 sub-move-strokes-down c = let s = c .before .before .before .before .before .before .before .before .before .before .args .self in first-within (s .bars) (s .strokes) _ (c .before .before .before .before .before .before .before .before .before .before .pre .0) (c .before .before .before .before .before .before .before .total-bars .ensures)
 
@@ -54,6 +57,7 @@ shed-spec =
     (tie.spec
     total-bars-requires
     array-read-first
+    cast-first
     sub-move-strokes-down
     move-strokes-down-requires
     shed-counts-requires

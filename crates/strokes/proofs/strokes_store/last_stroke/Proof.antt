@@ -23,11 +23,17 @@ mul-bars c = search needs
 array-read-bars : tie.Need-array-read-bars
 array-read-bars c = search needs
 
+cast-bars : tie.Need-cast-bars
+cast-bars c = search needs
+
 mul-m : tie.Need-mul-m
 mul-m c = search needs
 
 array-read-m : tie.Need-array-read-m
 array-read-m c = search needs
+
+cast-m : tie.Need-cast-m
+cast-m c = search needs
 
 end-index-requires : tie.Need-end-index-requires
 end-index-requires c κs = search needs
@@ -102,8 +108,10 @@ last-stroke-spec =
     total-bars-requires
     mul-bars
     array-read-bars
+    cast-bars
     mul-m
     array-read-m
+    cast-m
     end-index-requires
     add-i
     add-j

@@ -18,14 +18,17 @@ abbrev μ-loop : tie.MeasureT-loop
 loop-holds : tie.Need-loop-holds Inv-loop μ-loop
 loop-holds c = let a = c .args in (search needs, zero-add (total (take (a .n) (a .t1))))
 
-mul-count : tie.Need-mul-count Inv-loop μ-loop
-mul-count c = search needs
+mul-wide : tie.Need-mul-wide Inv-loop μ-loop
+mul-wide c = search needs
 
-array-read-count : tie.Need-array-read-count Inv-loop μ-loop
-array-read-count c = search needs
+array-read-wide : tie.Need-array-read-wide Inv-loop μ-loop
+array-read-wide c = search needs
+
+wide-requires : tie.Need-wide-requires Inv-loop μ-loop
+wide-requires c κs = search needs
 
 add-sum : tie.Need-add-sum Inv-loop μ-loop
-add-sum c = let a = c .before .before .args in let l = c .before .loop in let e : length (a .t1) ≡ 65 = search needs in let p = c .before .before .pre in let b = p .0 in let q = total-step (a .t1) (a .n) (l .i) (l .sum) (omega arith) (c .loop-test .taken) (l .inv .1) in let t = p .1 in omega arith
+add-sum c = let a = c .before .before .before .args in let l = c .before .before .loop in let w = c .wide .ensures in let e : length (a .t1) ≡ 65 = search needs in let p = c .before .before .before .pre in let b = p .0 in let q = total-step (a .t1) (a .n) (l .i) (l .sum) (omega arith) (c .before .loop-test .taken) (l .inv .1) in let t = p .1 in omega arith
 
 add-i : tie.Need-add-i Inv-loop μ-loop
 add-i c = search needs
@@ -34,7 +37,7 @@ loop-less : tie.Need-loop-less Inv-loop μ-loop
 loop-less c = search needs
 
 loop-again : tie.Need-loop-again Inv-loop μ-loop
-loop-again c = let a = c .before .before .args in let l = c .before .loop in let e : length (a .t1) ≡ 65 = search needs in let p = c .before .before .pre in let b = p .0 in (search needs, total-step (a .t1) (a .n) (l .i) (l .sum) (omega arith) (c .loop-test .taken) (l .inv .1))
+loop-again c = let a = c .before .before .before .args in let l = c .before .before .loop in let e : length (a .t1) ≡ 65 = search needs in let p = c .before .before .before .pre in let b = p .0 in (search needs, rw (c .wide .ensures) (total-step (a .t1) (a .n) (l .i) (l .sum) (omega arith) (c .before .loop-test .taken) (l .inv .1)))
 
 returns : tie.Need-returns Inv-loop μ-loop
 returns c = let a = c .before .before .args in let l = c .before .loop in total-end (take (a .n) (a .t1)) (l .i) (l .sum) (a .n) (c .loop-test .left) (l .inv .1) (length-take-most (a .n) (a .t1))
@@ -46,8 +49,9 @@ total-bars-spec =
     Inv-loop
     μ-loop
     loop-holds
-    mul-count
-    array-read-count
+    mul-wide
+    array-read-wide
+    wide-requires
     add-sum
     add-i
     loop-less
