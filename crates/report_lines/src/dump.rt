@@ -289,8 +289,20 @@ fn strokes_lines(
             return;
         }
         let n = bars[i] as usize;
-        let m = fractals[i] as usize;
-        stroke_lines(rt, raw, st, si, sp, sc, se, fs, fp, at, n, m);
+        stroke_lines(
+            rt,
+            raw,
+            st,
+            si,
+            sp,
+            sc,
+            se,
+            fs,
+            fp,
+            at,
+            n,
+            fractals[i] as usize,
+        );
         if st.len() < n {
             return;
         }

@@ -496,11 +496,10 @@ fn total_fits(bars: [u32; 65], n: usize, room: usize) -> bool
     let mut left = room;
     let mut i: usize = 0;
     while i < n {
-        let count = bars[i] as usize;
-        if left < count {
+        if left < bars[i] as usize {
             return false;
         }
-        left -= count;
+        left -= bars[i] as usize;
         i += 1;
     }
     true

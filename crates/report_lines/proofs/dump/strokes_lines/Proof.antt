@@ -21,11 +21,17 @@ mul-n c = search needs
 array-read-n : tie.Need-array-read-n Inv-loop μ-loop
 array-read-n c = search needs
 
+cast-n : tie.Need-cast-n Inv-loop μ-loop
+cast-n c = search needs
+
 mul-stroke-lines : tie.Need-mul-stroke-lines Inv-loop μ-loop
 mul-stroke-lines c = search needs
 
 array-read-stroke-lines : tie.Need-array-read-stroke-lines Inv-loop μ-loop
 array-read-stroke-lines c = search needs
+
+cast-stroke-lines : tie.Need-cast-stroke-lines Inv-loop μ-loop
+cast-stroke-lines c = search needs
 
 stroke-lines-requires : tie.Need-stroke-lines-requires Inv-loop μ-loop
 stroke-lines-requires c κs = search needs
@@ -63,9 +69,9 @@ strokes-lines-spec =
     loop-holds
     returns
     mul-n
-    array-read-n
+    array-read-n cast-n
     mul-stroke-lines
-    array-read-stroke-lines
+    array-read-stroke-lines cast-stroke-lines
     stroke-lines-requires
     returns-2
     sub-if3

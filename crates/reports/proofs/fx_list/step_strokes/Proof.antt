@@ -28,11 +28,17 @@ mul-n c = search needs
 array-read-n : tie.Need-array-read-n Inv-loop μ-loop
 array-read-n c = search needs
 
+cast-n : tie.Need-cast-n Inv-loop μ-loop
+cast-n c = search needs
+
 mul-m : tie.Need-mul-m Inv-loop μ-loop
 mul-m c = search needs
 
 array-read-m : tie.Need-array-read-m Inv-loop μ-loop
 array-read-m c = search needs
+
+cast-m : tie.Need-cast-m Inv-loop μ-loop
+cast-m c = search needs
 
 step-stroke-requires : tie.Need-step-stroke-requires Inv-loop μ-loop
 step-stroke-requires c κs = let o = c .before .before .before .before in let a = o .args in let l = c .before .before .before .loop in let b6 = l .inv .6 in let b7 = l .inv .7 in let few = o .pre .0 .0 in let k = stroke-in (a .t7) (a .t8) (a .k) (l .i) (l .at) (omega arith) (omega arith) (c .before .before .loop-test .taken) (o .pre .1 .0) (l .inv .3) in let F = storedFractals (fractalStore (a .fs .now) (a .fp .now)) in let n = o .pre .0 .3 in let u = k .4 in ((omega arith, o .pre .0 .1), subst (λ (m : ℕ). CanList (a .write) (listing (l .os) (l .op) (l .r)) (drop 1 (take m (drop (l .at) F)))) (k .1) (stroke-asks (take (a .k) (a .t7)) (take (a .k) (a .t8)) F (l .at) (l .i) (k .2) (k .3) (a .write) (listing (l .os) (l .op) (l .r)) (l .inv .5)))
@@ -66,9 +72,9 @@ step-strokes-spec =
     μ-loop
     loop-holds
     mul-n
-    array-read-n
+    array-read-n cast-n
     mul-m
-    array-read-m
+    array-read-m cast-m
     step-stroke-requires
     add-at
     add-i

@@ -31,11 +31,17 @@ mul-b c = search needs
 array-read-b : tie.Need-array-read-b Inv-loop μ-loop
 array-read-b c = search needs
 
+cast-b : tie.Need-cast-b Inv-loop μ-loop
+cast-b c = search needs
+
 mul-f : tie.Need-mul-f Inv-loop μ-loop
 mul-f c = search needs
 
 array-read-f : tie.Need-array-read-f Inv-loop μ-loop
 array-read-f c = search needs
+
+cast-f : tie.Need-cast-f Inv-loop μ-loop
+cast-f c = search needs
 
 returns : tie.Need-returns Inv-loop μ-loop
 returns c = let b = c .before .before .before .before in let l = c .before .before .loop in (strokes-few (b .args .rt .now) (b .args .t3) (b .args .t4) (b .args .n) (l .k) (l .a) (b .args .st .now) (b .args .sp .now) (b .args .sc .now) (b .args .se .now) (b .args .fs .now) (b .args .fp .now) (l .inv .2) (l .inv .3) (search needs) (search needs) _ (search needs) (l .inv .4), l .inv .2, l .inv .3)
@@ -144,9 +150,9 @@ strokes-pass-spec =
     μ-loop
     loop-holds
     mul-b
-    array-read-b
+    array-read-b cast-b
     mul-f
-    array-read-f
+    array-read-f cast-f
     returns
     add-e
     add-g

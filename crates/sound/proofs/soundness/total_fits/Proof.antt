@@ -24,6 +24,9 @@ mul-if1 c = search needs
 array-read-if1 : tie.Need-array-read-if1 Inv-loop μ-loop
 array-read-if1 c = search needs
 
+cast-if1 : tie.Need-cast-if1 Inv-loop μ-loop
+cast-if1 c = search needs
+
 returns : tie.Need-returns Inv-loop μ-loop
 returns c = let l = c .before .before .loop in let a = c .before .before .before .args in (total-stop _ (a .n) (l .i) (search needs) (search needs) (l .left) _ (search needs) (l .inv .2), l .inv .1)
 
@@ -32,6 +35,9 @@ mul-left c = search needs
 
 array-read-left : tie.Need-array-read-left Inv-loop μ-loop
 array-read-left c = search needs
+
+cast-left : tie.Need-cast-left Inv-loop μ-loop
+cast-left c = search needs
 
 sub-left : tie.Need-sub-left Inv-loop μ-loop
 sub-left c = search needs
@@ -56,10 +62,10 @@ total-fits-spec =
     μ-loop
     loop-holds
     mul-if1
-    array-read-if1
+    array-read-if1 cast-if1
     returns
     mul-left
-    array-read-left
+    array-read-left cast-left
     sub-left
     add-i
     loop-less

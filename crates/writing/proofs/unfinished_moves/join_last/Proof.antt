@@ -25,6 +25,9 @@ mul-rows c = search needs
 array-read-rows : tie.Need-array-read-rows
 array-read-rows c = search needs
 
+cast-rows : tie.Need-cast-rows
+cast-rows c = search needs
+
 join-broken-requires : tie.Need-join-broken-requires
 join-broken-requires c κs = let a = c .before .before .before .before .before .before .before .before .before .before .args in let p = c .before .before .before .before .before .before .before .before .before .before .pre in can-join (a .stand) _ _ (c .before .before .before .before .before .total-bars .result) (p .0) (p .1 .0) (p .1 .1 .0) (p .1 .1 .1) (c .before .before .before .before .before .total-bars .ensures)
 
@@ -58,7 +61,7 @@ join-last-spec =
     sub-n
     total-bars-requires
     mul-rows
-    array-read-rows
+    array-read-rows cast-rows
     join-broken-requires
     same-length
     same-length-2

@@ -12,6 +12,9 @@ mul-m c = let p = c .before .before .pre .place in search needs
 array-read-m : tie.Need-array-read-m
 array-read-m c = let p = c .before .before .pre .place in search needs
 
+cast-m : tie.Need-cast-m
+cast-m c = search needs
+
 fake-count-requires : tie.Need-fake-count-requires
 fake-count-requires c κs = search needs
 
@@ -44,7 +47,7 @@ list-fakes-spec =
     tie.close
     (tie.spec
     mul-m
-    array-read-m
+    array-read-m cast-m
     fake-count-requires
     fits-requires
     put-fakes-requires

@@ -17,6 +17,9 @@ mul-m c = let p = c .before .before .before .before .pre .0 in let a = p .place 
 array-read-m : tie.Need-array-read-m
 array-read-m c = let p = c .before .before .before .before .pre .0 in let a = p .place in search needs
 
+cast-m : tie.Need-cast-m
+cast-m c = search needs
+
 fake-count-requires : tie.Need-fake-count-requires
 fake-count-requires c κs = search needs
 
@@ -43,7 +46,7 @@ put-fakes-spec =
     (tie.spec
     total-bars-requires
     mul-m
-    array-read-m
+    array-read-m cast-m
     fake-count-requires
     write-fakes-requires
     same-length

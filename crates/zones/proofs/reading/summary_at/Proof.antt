@@ -15,6 +15,9 @@ mul-m c = search needs
 array-read-m : tie.Need-array-read-m
 array-read-m c = search needs
 
+cast-m : tie.Need-cast-m
+cast-m c = search needs
+
 end-index-requires : tie.Need-end-index-requires
 end-index-requires c κs = search needs
 
@@ -46,7 +49,7 @@ summary-at-spec =
     (tie.spec
     total-bars-requires
     mul-m
-    array-read-m
+    array-read-m cast-m
     end-index-requires
     add-end
     mark-at-requires
