@@ -1,12 +1,13 @@
 -- The bars of a store after every column was written alike: one law for each of set, take, drop and ++ on two lists joined place by place, and what follows
 -- for the stores. Assumes nothing.
-use Prim.Native.Nat.{ℕ, zero, suc, _+_, _<_, _≤_}
-use mathlib.Core.List.{List, [], _∷_, _++_, map}
+use Prim.Native.Nat.{ℕ, zero, suc, _+_, _-_, _<_, _≤_}
+use mathlib.Core.List.{List, [], _∷_, _++_, map, append-nil}
 use mathlib.Core.Path.{_≡_, refl, ap, sym, _∙_}
+use native.Mathlib.Nat.{le-refl}
 use native.Mathlib.Numerals.{add-one}
 use native.Mathlib.Omega.{arith}
-use lib.ListN.{length, take, drop, getD, set, length-take, length-drop, length-set, length-append}
-use lib.Seq.{take-suc-set}
+use lib.ListN.{length, take, drop, getD, set, length-take, length-drop, length-set, length-append, drop-of-length-le}
+use lib.Seq.{take-suc-set, take-all, length-take-le}
 use lib.IntN.{ℤ, pos}
 use lib.Ieee.{Float}
 use Rattle.bars.specs.declared.Bar.{Bar}
@@ -16,8 +17,8 @@ use Rattle.bars.specs.Lists.{copied}
 use Rattle.stores.specs.Stores.{RawStore, MergedStore, mergedStore, rawPart, zipWith, barOf, withFirst}
 use Rattle.stores.specs.Code.StoreRows.{SizedRaw, SizedMerged, RoomRaw, RoomMerged}
 use Rattle.stores.specs.Stores.{rawBars, mergedBars}
-use Rattle.stores.specs.Code.StoreRows.{barAt, newBarAt, setBar, setNewBar, copiedRaw, copiedMerged}
-use Rattle.bars.proofs.Moves.{length-copied, take-copied}
+use Rattle.stores.specs.Code.StoreRows.{barAt, newBarAt, setBar, setNewBar, copiedRaw}
+use Rattle.bars.proofs.Moves.{length-copied}
 
 module _ {A B C : Type 0} (f : A → B → C) where
   pub zip-take : (n : ℕ) (l : List A) (m : List B) → zipWith f (take n l) (take n m) ≡ take n (zipWith f l m)
@@ -85,6 +86,42 @@ module _ {A B C : Type 0} (f : A → B → C) where
       (rw (length-append, length-append, p, q))
       ∙ ap (λ (r : List C). r ++ zipWith f (drop (at + n) d) (drop (at + n) e)) (zip-append (take at d) (take n (drop from s)) (take at e) (take n (drop from t)) p)
       ∙ (λ i. zip-take at d e i ++ (zip-take n (drop from s) (drop from t) ∙ ap (take n) (zip-drop from s t)) i ++ zip-drop (at + n) d e i)
+
+-- ---- a part that was lent, `&mut d[lo..]`, and the list that has it back
+
+abbrev pub partOf : {A : Type 0} → ℕ → List A → List A
+partOf lo d = take (length d - lo) (drop lo d)
+
+abbrev pub backIn : {A : Type 0} → ℕ → List A → List A → List A
+backIn lo d r = take lo d ++ (r ++ drop (length d - lo) (drop lo d))
+
+module _ {A : Type 0} (lo : ℕ) (d : List A) where
+  part-is : partOf lo d ≡ drop lo d
+  part-is = take-all (length d - lo) (drop lo d) (rw length-drop (le-refl (length d - lo)))
+
+  back-is : (r : List A) → backIn lo d r ≡ take lo d ++ r
+  back-is r =
+      let none : drop (length d - lo) (drop lo d) ≡ [] = drop-of-length-le (drop lo d) {i = length d - lo} (rw length-drop (le-refl (length d - lo))) in
+      rw (none, append-nil r)
+
+  pub back-length : (r : List A) → lo ≤ length d → length r ≡ length (partOf lo d) → length (backIn lo d r) ≡ length d
+  back-length r h e =
+      let t = length-take-le lo d h in
+      let p = ap length part-is ∙ length-drop lo d in
+      let b = ap length (back-is r) ∙ length-append (take lo d) r in
+      omega arith
+
+-- the parts of two columns
+module _ {A B C : Type 0} (f : A → B → C) (lo : ℕ) (l : List A) (m : List B) where
+  pub zip-part : zipWith f (partOf lo l) (partOf lo m) ≡ partOf lo (zipWith f l m)
+  zip-part = (λ i. zipWith f (part-is lo l i) (part-is lo m i)) ∙ zip-drop f lo l m ∙ sym (part-is lo (zipWith f l m))
+
+  pub zip-back : (r : List A) (s : List B) → lo ≤ length l → lo ≤ length m → zipWith f (backIn lo l r) (backIn lo m s) ≡ backIn lo (zipWith f l m) (zipWith f r s)
+  zip-back r s h k =
+      (λ i. zipWith f (back-is lo l r i) (back-is lo m s i))
+      ∙ zip-append f (take lo l) r (take lo m) s (length-take-le lo l h ∙ sym (length-take-le lo m k))
+      ∙ ap (λ (x : List C). x ++ zipWith f r s) (zip-take f lo l m)
+      ∙ sym (back-is lo (zipWith f l m) (zipWith f r s))
 
 -- what g reads of the rows of three columns, and r of their first column, or of their third
 module _ {A B C D X : Type 0} (f : A → B → C → D) (g : D → X) where
@@ -202,20 +239,6 @@ merged-set s at k =
     (zip-set withFirst at (rawBars (rawPart s)) (s .counts) (k .bar) (k .count))
     ∙ zip-set (λ f l. f l) at (zipWith withFirst (rawBars (rawPart s)) (s .counts)) (s .elements) (withFirst (k .bar) (k .count)) (k .elements)
 
-pub merged-copied : (d s : MergedStore) (at from n k m : ℕ) → SizedMerged d k → SizedMerged s m
-    → mergedBars (copiedMerged d at s from n) ≡ copied (mergedBars d) at (mergedBars s) from n
-unfolding mergedBars copiedMerged
-merged-copied d s at from n k m h g =
-    let p = raw-length (rawPart d) k (h .raw) in
-    let q = raw-length (rawPart s) m (g .raw) in
-    ap (λ (l : List Bar). zipWith (λ f l. f l) (zipWith withFirst l (copied (d .counts) at (s .counts) from n)) (copied (d .elements) at (s .elements) from n))
-    (raw-copied (rawPart d) (rawPart s) at from n k m (h .raw) (g .raw))
-    ∙ ap (λ (l : List (List ℤ → Merged)). zipWith (λ f l. f l) l (copied (d .elements) at (s .elements) from n))
-    (zip-copied withFirst (rawBars (rawPart d)) (rawBars (rawPart s)) (d .counts) (s .counts) at from n (p ∙ sym (h .counts)) (q ∙ sym (g .counts)))
-    ∙ zip-copied (λ f l. f l) (zipWith withFirst (rawBars (rawPart d)) (d .counts)) (zipWith withFirst (rawBars (rawPart s)) (s .counts)) (d .elements) (s .elements) at from n
-    (zip-length withFirst (rawBars (rawPart d)) (d .counts) (p ∙ sym (h .counts)) ∙ p ∙ sym (h .elements))
-    (zip-length withFirst (rawBars (rawPart s)) (s .counts) (q ∙ sym (g .counts)) ∙ q ∙ sym (g .elements))
-
 pub sized-merged-set : (s : MergedStore) (at n : ℕ) (k : NewBar) → SizedMerged s n → SizedMerged (setNewBar s at k) n
 unfolding setNewBar
 sized-merged-set s at n k h =
@@ -225,32 +248,13 @@ sized-merged-set s at n k h =
       elements = length-set (s .elements) at (k .elements) ∙ h .elements;
     }
 
-pub sized-merged-copied : (d s : MergedStore) (at from n k m : ℕ) → SizedMerged d k → SizedMerged s m → at + n ≤ k → from + n ≤ m → SizedMerged (copiedMerged d at s from n) k
-unfolding copiedMerged
-sized-merged-copied d s at from n k m h g a b =
-    record {
-      raw = sized-copied (rawPart d) (rawPart s) at from n k m (h .raw) (g .raw) a b;
-      counts = length-copied (d .counts) (s .counts) at from n (rw (h .counts) a) (rw (g .counts) b) ∙ h .counts;
-      elements = length-copied (d .elements) (s .elements) at from n (rw (h .elements) a) (rw (g .elements) b) ∙ h .elements;
-    }
-
--- ---- the bars that are kept, after a bar was appended and after a run was copied
+-- ---- the bars that are kept, after a bar was appended
 
 pub raw-appended : (s : RawStore) (n k : ℕ) (b : Bar) → SizedRaw s k → n < k → take (n + 1) (rawBars (setBar s n b)) ≡ take n (rawBars s) ++ b ∷ []
 raw-appended s n k b h g = rw (raw-set, add-one) (take-suc-set (rawBars s) n b (rw (raw-length s k h) g))
 
 pub merged-appended : (s : MergedStore) (n k : ℕ) (b : NewBar) → SizedMerged s k → n < k → take (n + 1) (mergedBars (setNewBar s n b)) ≡ take n (mergedBars s) ++ mergedOf b ∷ []
 merged-appended s n k b h g = rw (merged-set, add-one) (take-suc-set (mergedBars s) n (mergedOf b) (rw (merged-length s k h) g))
-
-pub raw-joined : (d s : RawStore) (at from n k m : ℕ) → SizedRaw d k → SizedRaw s m → at + n ≤ k → from + n ≤ m
-    → take (at + n) (rawBars (copiedRaw d at s from n)) ≡ take at (rawBars d) ++ take n (drop from (rawBars s))
-raw-joined d s at from n k m h g a b =
-    rw (raw-copied d s at from n k m h g) (take-copied (rawBars d) (rawBars s) at from n (rw (raw-length d k h) a) (rw (raw-length s m g) b))
-
-pub merged-joined : (d s : MergedStore) (at from n k m : ℕ) → SizedMerged d k → SizedMerged s m → at + n ≤ k → from + n ≤ m
-    → take (at + n) (mergedBars (copiedMerged d at s from n)) ≡ take at (mergedBars d) ++ take n (drop from (mergedBars s))
-merged-joined d s at from n k m h g a b =
-    rw (merged-copied d s at from n k m h g) (take-copied (mergedBars d) (mergedBars s) at from n (rw (merged-length d k h) a) (rw (merged-length s m g) b))
 
 -- ---- the columns, read off the bars
 

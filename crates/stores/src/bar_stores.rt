@@ -6,7 +6,7 @@ ghost use mathlib.Core.List.{[]};
 ghost use Prim.Native.Nat.{_+_, _≤_};
 ghost use lib.ListN.{length, take, getD};
 ghost use lib.Dec.{T};
-ghost use Rattle.stores.specs.Code.StoreRows.{RoomRaw, RoomMerged, barAt, newBarAt, setBar, copiedRaw, copiedMerged, MovedToStart, BarWritten, rising, placeOf};
+ghost use Rattle.stores.specs.Code.StoreRows.{RoomRaw, RoomMerged, barAt, newBarAt, setBar, copiedRaw, CopiedInUse, BarWritten, rising, placeOf};
 ghost use Rattle.stores.specs.Stores.{withFirst};
 ghost use Rattle.bars.specs.Code.MergedBars.{withElement};
 ghost use Rattle.stores.specs.Lent.{rawHeld, rawBefore, rawAfter, mergedHeld, mergedBefore, mergedAfter};
@@ -145,6 +145,9 @@ pub fn move_bars_up(
     rows::up_prices(prices, from, at, n);
 }
 
+// The same three of merged bars. Of a row of elements only what is in use is copied: what the places beyond a count
+// hold afterwards is not said.
+
 pub fn join_new_bars(
     ts: &[i64],
     is: &[i32],
@@ -161,11 +164,10 @@ pub fn join_new_bars(
     n: usize,
 )
     requires { ⌜ RoomMerged (mergedHeld ts is ps cs es) (from + n) ⌝ ∗ ⌜ RoomMerged (mergedHeld times ids prices counts elements) (at + n) ⌝ }
-    ensures { λ _. ⌜ mergedAfter times ids prices counts elements ≡ copiedMerged (mergedBefore times ids prices counts elements) at (mergedBefore ts is ps cs es) from n ⌝ }
+    ensures { λ _. ⌜ CopiedInUse (mergedBefore times ids prices counts elements) at (mergedBefore ts is ps cs es) from n (mergedAfter times ids prices counts elements) ⌝ }
 {
     join_bars(ts, is, ps, from, times, ids, prices, at, n);
-    rows::join_counts(cs, from, counts, at, n);
-    rows::join_elements(es, from, elements, at, n);
+    rows::join_in_use(cs, es, from, counts, elements, at, n);
 }
 
 pub fn move_new_bars_down(
@@ -179,29 +181,10 @@ pub fn move_new_bars_down(
     n: usize,
 )
     requires { ⌜ at ≤ from ⌝ ∗ ⌜ RoomMerged (mergedHeld times ids prices counts elements) (from + n) ⌝ }
-    ensures { λ _. ⌜ mergedAfter times ids prices counts elements ≡ copiedMerged (mergedBefore times ids prices counts elements) at (mergedBefore times ids prices counts elements) from n ⌝ }
+    ensures { λ _. ⌜ CopiedInUse (mergedBefore times ids prices counts elements) at (mergedBefore times ids prices counts elements) from n (mergedAfter times ids prices counts elements) ⌝ }
 {
     move_bars_down(times, ids, prices, from, at, n);
-    rows::down_counts(counts, from, at, n);
-    rows::down_elements(elements, from, at, n);
-}
-
-// The n bars from place `from` on to the beginning. Of a row of elements only what is in use is moved:
-// what the places beyond a count hold afterwards is not said.
-pub fn move_new_bars_to_start(
-    times: &mut [i64],
-    ids: &mut [i32],
-    prices: &mut [[f64; 6]],
-    counts: &mut [usize],
-    elements: &mut [[i64; 101]],
-    from: usize,
-    n: usize,
-)
-    requires { ⌜ RoomMerged (mergedHeld times ids prices counts elements) (from + n) ⌝ }
-    ensures { λ _. ⌜ MovedToStart (mergedBefore times ids prices counts elements) from n (mergedAfter times ids prices counts elements) ⌝ }
-{
-    move_bars_down(times, ids, prices, from, 0, n);
-    rows::down_in_use(counts, elements, from, n);
+    rows::down_in_use(counts, elements, from, at, n);
 }
 
 pub fn move_new_bars_up(
@@ -215,11 +198,10 @@ pub fn move_new_bars_up(
     n: usize,
 )
     requires { ⌜ from ≤ at ⌝ ∗ ⌜ RoomMerged (mergedHeld times ids prices counts elements) (at + n) ⌝ }
-    ensures { λ _. ⌜ mergedAfter times ids prices counts elements ≡ copiedMerged (mergedBefore times ids prices counts elements) at (mergedBefore times ids prices counts elements) from n ⌝ }
+    ensures { λ _. ⌜ CopiedInUse (mergedBefore times ids prices counts elements) at (mergedBefore times ids prices counts elements) from n (mergedAfter times ids prices counts elements) ⌝ }
 {
     move_bars_up(times, ids, prices, from, at, n);
-    rows::up_counts(counts, from, at, n);
-    rows::up_elements(elements, from, at, n);
+    rows::up_in_use(counts, elements, from, at, n);
 }
 
 // ---- a time among the kept ones

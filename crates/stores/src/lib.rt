@@ -9,7 +9,6 @@ pub use bar_stores::join_new_bars;
 pub use bar_stores::move_bars_down;
 pub use bar_stores::move_bars_up;
 pub use bar_stores::move_new_bars_down;
-pub use bar_stores::move_new_bars_to_start;
 pub use bar_stores::move_new_bars_up;
 pub use bar_stores::read_bar;
 pub use bar_stores::read_new_bar;

@@ -12,7 +12,7 @@ use lib.Ieee.Fits.{and-i, and-l, and-r}
 use Rattle.bars.specs.Bars.{Merged}
 use Rattle.bars.specs.Lists.{copied, every}
 use Rattle.stores.specs.Stores.{MergedStore}
-use Rattle.stores.specs.Code.StoreRows.{SizedMerged, BarWritten, setNewBar, copiedMerged}
+use Rattle.stores.specs.Code.StoreRows.{SizedMerged, BarWritten, setNewBar}
 use Rattle.bars.proofs.Moves.{take-copied, run-is}
 use Rattle.strokes.specs.declared.Stand.{Stand}
 use Rattle.strokes.specs.StateRead.{elementsSized}
@@ -80,31 +80,29 @@ unfolding elementsSized
 stay-moved m w j n room h a c e t =
     subst (λ (x : List ℕ). T (every (λ k. leb k 101) x)) (sym (ap (take (n - j)) e ∙ moved-down (m .counts) j n a (rw (h .counts) c))) (every-drop (λ k. leb k 101) j (take n (m .counts)) t)
 
-pub stay-begun : (m w : MergedStore) (j n room : ℕ) → SizedMerged m room → j ≤ n → n ≤ room → w ≡ copiedMerged m 0 m j (n - j) → StaySized n m (n - j) w
-unfolding copiedMerged
-stay-begun m w j n room h a c e = stay-moved m w j n room h a c (ap (λ (x : MergedStore). x .counts) e)
-
 -- all but the last two of so many bars of another store, from place `at` on, stand before those from place j on
-pub stay-joined : (s : Stand) (u k w : MergedStore) (at rows j : ℕ) → CanJoin s u k at rows → j ≤ s .unfinished → rows - 2 + (s .unfinished - j) ≤ s .rooms .unfinished
-    → w ≡ copiedMerged (copiedMerged u (rows - 2) u j (s .unfinished - j)) 0 k at (rows - 2)
+pub stay-joined : (s : Stand) (u k w : MergedStore) (cs : List ℕ) (at rows j : ℕ) → CanJoin s u k at rows → j ≤ s .unfinished → rows - 2 + (s .unfinished - j) ≤ s .rooms .unfinished
+    → cs ≡ copied (u .counts) (rows - 2) (u .counts) j (s .unfinished - j)
+    → w .counts ≡ copied cs 0 (k .counts) at (rows - 2)
     → T (elementsSized (at + rows) k) → StaySized (s .unfinished) u (rows - 2 + (s .unfinished - j)) w
-unfolding elementsSized copiedMerged
-stay-joined s u k w at rows j h a b e q t =
+unfolding elementsSized
+stay-joined s u k w cs at rows j h a b d e q t =
     let n = s .unfinished in
     let m = rows - 2 in
     let two = h .two in
     let within = h .within in
     let inside : at + m ≤ s .rooms .strokes = omega arith in
-    subst (λ (x : MergedStore). T (elementsSized (m + (n - j)) x)) (sym e)
-    (subst (λ (x : List ℕ). T (every (λ k. leb k 101) x)) (sym (joined-rows (u .counts) (k .counts) m j n at a (rw (h .unfinished .counts) (h .fits)) (rw (h .unfinished .counts) b) (rw (h .strokes .counts) inside)))
-    (every-both (λ k. leb k 101) (take m (drop at (k .counts))) (drop j (take n (u .counts))) (every-run (λ k. leb k 101) at m (at + rows) (k .counts) (omega arith) q) (every-drop (λ k. leb k 101) j (take n (u .counts)) t)))
+    let reads = ap (take (m + (n - j))) (e ∙ ap (λ (x : List ℕ). copied x 0 (k .counts) at m) d)
+    ∙ joined-rows (u .counts) (k .counts) m j n at a (rw (h .unfinished .counts) (h .fits)) (rw (h .unfinished .counts) b) (rw (h .strokes .counts) inside) in
+    subst (λ (x : List ℕ). T (every (λ k. leb k 101) x)) (sym reads)
+    (every-both (λ k. leb k 101) (take m (drop at (k .counts))) (drop j (take n (u .counts))) (every-run (λ k. leb k 101) at m (at + rows) (k .counts) (omega arith) q) (every-drop (λ k. leb k 101) j (take n (u .counts)) t))
 
 -- so many of the first n bars of another store, from place `from` on, stand behind the first k
 pub stay-added : (d s w : MergedStore) (k from m n room other : ℕ) → SizedMerged d room → SizedMerged s other → from + m ≤ n → n ≤ other → k + m ≤ room
-    → w ≡ copiedMerged d k s from m → T (elementsSized n s) → StaySized k d (k + m) w
-unfolding elementsSized copiedMerged
+    → w .counts ≡ copied (d .counts) k (s .counts) from m → T (elementsSized n s) → StaySized k d (k + m) w
+unfolding elementsSized
 stay-added d s w k from m n room other h g a b c e q t =
     let inside : from + m ≤ other = omega arith in
-    subst (λ (x : MergedStore). T (elementsSized (k + m) x)) (sym e)
-    (subst (λ (x : List ℕ). T (every (λ k. leb k 101) x)) (sym (take-copied (d .counts) (s .counts) k from m (rw (h .counts) c) (rw (g .counts) inside)))
-    (every-both (λ k. leb k 101) (take k (d .counts)) (take m (drop from (s .counts))) t (every-run (λ k. leb k 101) from m n (s .counts) a q)))
+    subst (λ (x : List ℕ). T (every (λ k. leb k 101) x))
+    (sym (ap (take (k + m)) e ∙ take-copied (d .counts) (s .counts) k from m (rw (h .counts) c) (rw (g .counts) inside)))
+    (every-both (λ k. leb k 101) (take k (d .counts)) (take m (drop from (s .counts))) t (every-run (λ k. leb k 101) from m n (s .counts) a q))

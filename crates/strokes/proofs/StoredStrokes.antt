@@ -19,11 +19,11 @@ use Rattle.arith.specs.Order.{maxOf, minOf}
 use Rattle.bars.specs.Bars.{Merged, mergedOf}
 use Rattle.bars.specs.Lists.{All, every, some-of, last, init, copied}
 use Rattle.stores.specs.Stores.{RawStore, MergedStore, rawPart, barOf, rawBars, mergedBars}
-use Rattle.stores.specs.Code.StoreRows.{SizedMerged, RoomRaw, RoomMerged, barAt, newBarAt, copiedMerged, MovedToStart}
+use Rattle.stores.specs.Code.StoreRows.{SizedMerged, RoomRaw, RoomMerged, barAt, newBarAt, CopiedInUse}
 use Rattle.bars.proofs.Moves.{length-copied, take-copied, run-is, down-turn}
-use Rattle.stores.proofs.Columns.{zip-copied, zip-length, zip-at, merged-at, merged-length, merged-copied, sized-merged-copied, merged-bars}
+use Rattle.stores.proofs.Columns.{zip-copied, zip-length, zip-at, merged-at, merged-length, merged-bars}
 use Rattle.stores.proofs.KeptBars.{map-take}
-use Rattle.stores.proofs.InUse.{moved-read, sized-moved}
+use Rattle.stores.proofs.InUse.{copied-read, copied-sized}
 use Rattle.strokes.specs.declared.Stand.{Stand}
 use Rattle.strokes.specs.declared.strokes_store.LastStroke.{LastStroke}
 use Rattle.machine.specs.declared.Mark.{Mark}
@@ -214,7 +214,7 @@ pub shed-means : (s r : Stand) (k : MergedStore) (f : FractalStore) (k' : Merged
     → Kept s k f
     → 1 ≤ s .strokes
     → b ≡ getD (s .bars) 0 0
-    → MovedToStart k b (total (barCounts s) - b) k'
+    → CopiedInUse k 0 k b (total (barCounts s) - b) k'
     → f' ≡ copiedFractals f 0 f b (total (barCounts s) - b)
     → r ≡ shedStand s
     → barCounts r ≡ drop 1 (barCounts s)
@@ -237,7 +237,7 @@ shed-means s r k f k' f' b h one eb ek ef er ns ms =
     let less = h .strokes in
     record {
       strokes =
-          (λ i. strokesWith (ns i) (ms i) (moved-read k k' b t room (h .merged) ek i)
+          (λ i. strokesWith (ns i) (ms i) (copied-read k k k' 0 b t room room (h .merged) (h .merged) ek i)
           ((ap storedFractals ef ∙ stored-copied f f 0 b t room room (h .fractals) (h .fractals)) i))
           ∙ (λ i. strokesWith (drop 1 w) (drop 1 (fractalCounts s)) (copied (mergedBars k) 0 (mergedBars k) (eb' i) (total w - eb' i))
           (copied (storedFractals f) 0 (storedFractals f) (eb' i) (total w - eb' i)))
@@ -245,7 +245,7 @@ shed-means s r k f k' f' b h one eb ek ef er ns ms =
       kept =
           record {
             strokes = omega arith;
-            merged = subst (SizedMerged k') (sym rm) (sized-moved k k' b t room (h .merged) lt ek);
+            merged = subst (SizedMerged k') (sym rm) (copied-sized k k k' 0 b t room room (h .merged) (h .merged) ek lz lt);
             fractals = subst (SizedFractals f') (sym rm) (subst (λ (x : FractalStore). SizedFractals x room) (sym ef) (sized-copied f f 0 b t room room (h .fractals) (h .fractals) lz lt));
             fits = rw (ns, rm, total-drop w) (omega arith);
             fewer = subst (λ (x : List ℕ). Fewer (barCounts r) x) (sym ms) (subst (λ (x : List ℕ). Fewer x (drop 1 (fractalCounts s))) (sym ns) (fewer-drop w (fractalCounts s) (h .fewer)));
@@ -259,7 +259,7 @@ shed-means s r k f k' f' b h one eb ek ef er ns ms =
           };
       elements =
           λ few. subst (λ (i : ℕ). T (elementsSized i k')) (sym (ap total ns ∙ total-drop w ∙ ap (λ (x : ℕ). total w - x) (sym eb')))
-          (stay-moved k k' b (total w) room (h .merged) g fits (ek .counts) few);
+          (stay-moved k k' b (total w) room (h .merged) g fits (ek .rows .counts) few);
     }
 
 -- the same of the numbers that the code has computed
@@ -267,7 +267,7 @@ pub shed-done : (s r : Stand) (k : MergedStore) (f : FractalStore) (k' : MergedS
     → Kept s k f
     → 1 ≤ s .strokes
     → u ≡ total (take (s .strokes) (s .bars))
-    → MovedToStart k (getD (s .bars) 0 0) (u - getD (s .bars) 0 0) k'
+    → CopiedInUse k 0 k (getD (s .bars) 0 0) (u - getD (s .bars) 0 0) k'
     → f' ≡ copiedFractals f 0 f (getD (s .bars) 0 0) (u - getD (s .bars) 0 0)
     → r ≡ shedStand s
     → barCounts r ≡ drop 1 (barCounts s)
@@ -276,7 +276,7 @@ pub shed-done : (s r : Stand) (k : MergedStore) (f : FractalStore) (k' : MergedS
 unfolding barCounts
 shed-done s r k f k' f' u h one eu ek ef er ns ms =
     let b = getD (s .bars) 0 0 in
-    shed-means s r k f k' f' b h one refl (subst (λ (x : ℕ). MovedToStart k b (x - b) k') eu ek) (ef ∙ ap (λ (x : ℕ). copiedFractals f 0 f b (x - b)) eu) er ns ms
+    shed-means s r k f k' f' b h one refl (subst (λ (x : ℕ). CopiedInUse k 0 k b (x - b) k') eu ek) (ef ∙ ap (λ (x : ℕ). copiedFractals f 0 f b (x - b)) eu) er ns ms
 
 pub shed-not : (s : Stand) (k : MergedStore) (f : FractalStore) → Kept s k f → ShedWhere false s k f s k f
 unfolding shedIf
@@ -466,11 +466,10 @@ module _ (s : Stand) (u k : MergedStore) (f : FractalStore) (first bars : ℕ) (
   inside : first + bars ≤ length (mergedBars u)
   inside = let a = g .inside in let b = g .unfinished in omega (arith, lower)
 
-  bars-read : (k' : MergedStore) (t : ℕ) → k' ≡ copiedMerged k t u first bars
+  bars-read : (k' : MergedStore) (t : ℕ) → CopiedInUse k t u first bars k'
       → mergedBars k' ≡ pasted (mergedBars k) t (take bars (drop first (take (s .unfinished) (mergedBars u))))
   bars-read k' t e =
-      ap mergedBars e
-      ∙ merged-copied k u t first bars (s .rooms .strokes) (s .rooms .unfinished) (h .merged) (g .merged)
+      copied-read k u k' t first bars (s .rooms .strokes) (s .rooms .unfinished) (h .merged) (g .merged) e
       ∙ copied-pasted (mergedBars k) (mergedBars u) t first bars inside
       ∙ ap (pasted (mergedBars k) t) (sym (run-take (mergedBars u) (s .unfinished) first bars (g .inside)))
 
@@ -497,7 +496,7 @@ module _ (s : Stand) (u k : MergedStore) (f : FractalStore) (first bars : ℕ) (
   pub made-means : (r : Stand) (k' : MergedStore) (f' : FractalStore) (t e m : ℕ)
       → t ≡ total (take (s .strokes) (s .bars))
       → e ≡ windowsEnd first bars (s .unfinished)
-      → k' ≡ copiedMerged k t u first bars
+      → CopiedInUse k t u first bars k'
       → m ≡ length (fractalsBetween (rawPart u) first e)
       → f' ≡ putFractals f t (fractalsBetween (rawPart u) first e)
       → r ≡ withStroke s bars m
@@ -532,8 +531,8 @@ module _ (s : Stand) (u k : MergedStore) (f : FractalStore) (first bars : ℕ) (
             record {
               strokes = omega arith;
               merged =
-                  subst (SizedMerged k') (sym rm) (subst (λ (z : MergedStore). SizedMerged z room) (sym ek)
-                  (sized-merged-copied k u t first bars room (s .rooms .unfinished) (h .merged) (g .merged) (rw tt' more) (rw lower at inside)));
+                  subst (SizedMerged k') (sym rm)
+                  (copied-sized k u k' t first bars room (s .rooms .unfinished) (h .merged) (g .merged) ek (rw tt' more) (rw lower at inside));
               fractals =
                   subst (SizedFractals f') (sym rm) (subst (λ (z : FractalStore). SizedFractals z room) (sym ef)
                   (sized-put f t room (fractalsBetween (rawPart u) first e) (h .fractals) (omega arith)));
@@ -552,7 +551,7 @@ module _ (s : Stand) (u k : MergedStore) (f : FractalStore) (first bars : ℕ) (
         elements =
             λ fresh few. subst (λ (i : ℕ). T (elementsSized i k')) (sym (ap total ns ∙ total-more w bars))
             (stay-added k u k' (total w) first bars (s .unfinished) room (s .rooms .unfinished) (h .merged) (g .merged) (g .inside) (g .unfinished) more
-            (ek ∙ ap (λ (x : ℕ). copiedMerged k x u first bars) tt') fresh few);
+            (ek .rows .counts ∙ ap (λ (x : ℕ). copied (k .counts) x (u .counts) first bars) tt') fresh few);
       }
 
 -- ---- the stroke that check_bi makes

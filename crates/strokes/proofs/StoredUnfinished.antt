@@ -16,10 +16,11 @@ use Rattle.bars.specs.Lists.{last, init, copied}
 use Rattle.bars.specs.Merging.{mergeIn, removeInclude}
 use Rattle.bars.specs.Code.MergedBars.{removeIncludeBar, removeIncludeAfter, inPlaceOf, withElement}
 use Rattle.bars.proofs.Including.{included-elements, included-own}
-use Rattle.stores.specs.Stores.{MergedStore, mergedStore, rawPart, barOf, withFirst, mergedBars}
-use Rattle.stores.specs.Code.StoreRows.{SizedMerged, RoomMerged, BarWritten, barAt, newBarAt, setNewBar, copiedRaw, copiedMerged, placeOf}
+use Rattle.stores.specs.Stores.{RawStore, rawStore, MergedStore, mergedStore, rawPart, barOf, withFirst, mergedBars}
+use Rattle.stores.specs.Code.StoreRows.{SizedMerged, RoomMerged, BarWritten, barAt, newBarAt, setNewBar, copiedRaw, inUse, CopiedInUse, placeOf}
 use Rattle.bars.proofs.Moves.{take-copied, run-is}
-use Rattle.stores.proofs.Columns.{merged-length, merged-at, merged-copied, merged-appended, merged-bars, raw-times, sized-merged-set, sized-merged-copied}
+use Rattle.stores.proofs.Columns.{merged-length, merged-at, merged-appended, merged-bars, raw-times, sized-merged-set, partOf, backIn, back-length, zip-part, zip-back}
+use Rattle.stores.proofs.InUse.{copied-read, copied-sized}
 use Rattle.strokes.specs.declared.Stand.{Stand}
 use Rattle.machine.specs.ByTime.{from}
 use Rattle.machine.specs.Break.{fromBar, joined}
@@ -48,13 +49,13 @@ has-unfinished s r m w n l e f h k q =
     }
 
 module _ (s r : Stand) (m w : MergedStore) (h : SizedMerged m (s .rooms .unfinished)) where
-  pub begun-at : (k : ℕ) → s .unfinished ≤ s .rooms .unfinished → k ≤ s .unfinished → w ≡ copiedMerged m 0 m k (s .unfinished - k) → r ≡ withUnfinished s (s .unfinished - k)
+  pub begun-at : (k : ℕ) → s .unfinished ≤ s .rooms .unfinished → k ≤ s .unfinished → CopiedInUse m 0 m k (s .unfinished - k) w → r ≡ withUnfinished s (s .unfinished - k)
       → HasUnfinished s r w (drop k (keptUnfinished s m))
   begun-at k a b f e =
       let n = s .unfinished in
       let K = s .rooms .unfinished in
-      has-unfinished s r w (copiedMerged m 0 m k (n - k)) (n - k) (drop k (keptUnfinished s m)) e f (sized-merged-copied m m 0 k (n - k) K K h h (omega arith) (omega arith)) (omega arith)
-      (ap (take (n - k)) (merged-copied m m 0 k (n - k) K K h h) ∙ moved-down (mergedBars m) k n b (rw (merged-length m K h) a))
+      has-unfinished s r w w (n - k) (drop k (keptUnfinished s m)) e refl (copied-sized m m w 0 k (n - k) K K h h f (omega arith) (omega arith)) (omega arith)
+      (ap (take (n - k)) (copied-read m m w 0 k (n - k) K K h h f) ∙ moved-down (mergedBars m) k n b (rw (merged-length m K h) a))
 
 -- ---- merging
 
@@ -214,24 +215,34 @@ module _ (lo at from i j n : ℕ) (to : lo + i ≡ at) (of : lo + j ≡ from) wh
       ∙ ap (λ (x : List A). x ++ take n (drop from d) ++ drop (at + n) d) (sym (take-add lo i d) ∙ ap (λ (y : ℕ). take y d) to)
 
   -- the same of every column
-  abbrev partOf : {A : Type 0} → List A → List A
-  partOf d = take (length d - lo) (drop lo d)
-
-  abbrev backIn : {A : Type 0} → List A → List A → List A
-  backIn d r = take lo d ++ (r ++ drop (length d - lo) (drop lo d))
-
   abbrev partsOf : MergedStore → MergedStore
-  partsOf s = mergedStore (partOf (s .times)) (partOf (s .ids)) (partOf (s .prices)) (partOf (s .counts)) (partOf (s .elements))
+  partsOf s = mergedStore (partOf lo (s .times)) (partOf lo (s .ids)) (partOf lo (s .prices)) (partOf lo (s .counts)) (partOf lo (s .elements))
 
-  pub parts-moved : (s v : MergedStore) → v ≡ copiedMerged (partsOf s) i (partsOf s) j n
-      → mergedStore (backIn (s .times) (v .times)) (backIn (s .ids) (v .ids)) (backIn (s .prices) (v .prices)) (backIn (s .counts) (v .counts)) (backIn (s .elements) (v .elements)) ≡ copiedMerged s at s from n
-  unfolding copiedMerged copiedRaw
-  parts-moved s v e =
-      λ t. mergedStore (part-moved (s .times) (v .times) (ap (λ (x : MergedStore). x .times) e) t)
-      (part-moved (s .ids) (v .ids) (ap (λ (x : MergedStore). x .ids) e) t)
-      (part-moved (s .prices) (v .prices) (ap (λ (x : MergedStore). x .prices) e) t)
-      (part-moved (s .counts) (v .counts) (ap (λ (x : MergedStore). x .counts) e) t)
-      (part-moved (s .elements) (v .elements) (ap (λ (x : MergedStore). x .elements) e) t)
+  abbrev backs : MergedStore → MergedStore → MergedStore
+  backs s v =
+      mergedStore (backIn lo (s .times) (v .times)) (backIn lo (s .ids) (v .ids)) (backIn lo (s .prices) (v .prices)) (backIn lo (s .counts) (v .counts))
+      (backIn lo (s .elements) (v .elements))
+
+  pub parts-moved : (s v : MergedStore) → lo ≤ length (s .counts) → lo ≤ length (s .elements) → CopiedInUse (partsOf s) i (partsOf s) j n v → CopiedInUse s at s from n (backs s v)
+  unfolding copiedRaw inUse
+  parts-moved s v h k e =
+      let cs = s .counts in
+      let es = s .elements in
+      let u = zip-part take lo cs es in
+      record {
+        raw =
+            λ t. rawStore (part-moved (s .times) (v .times) (ap (λ (x : RawStore). x .times) (e .raw)) t)
+            (part-moved (s .ids) (v .ids) (ap (λ (x : RawStore). x .ids) (e .raw)) t)
+            (part-moved (s .prices) (v .prices) (ap (λ (x : RawStore). x .prices) (e .raw)) t);
+        rows =
+            record {
+              counts = part-moved cs (v .counts) (e .rows .counts);
+              elements =
+                  zip-back take lo cs es (v .counts) (v .elements) h k
+                  ∙ part-moved (inUse cs es) (inUse (v .counts) (v .elements)) (e .rows .elements ∙ (λ t. copied (u t) i (u t) j n));
+              places = back-length lo es (v .elements) k (e .rows .places);
+            };
+      }
 
 -- m rows of another list before the rows from place j on of the first n
 pub joined-rows : {A : Type 0} (l k : List A) (m j n at : ℕ) → j ≤ n → n ≤ length l → m + (n - j) ≤ length l → at + m ≤ length k
@@ -303,18 +314,19 @@ module _ (s : Stand) (u k : MergedStore) (at n j : ℕ) (h : CanJoin s u k at n)
       omega arith
 
   -- the store that the rest was brought in has room for the stroke's bars
-  pub join-after : (w : MergedStore) → w ≡ copiedMerged u (n - 2) u j (s .unfinished - j) → RoomMerged w (0 + (n - 2))
+  pub join-after : (w : MergedStore) → CopiedInUse u (n - 2) u j (s .unfinished - j) w → RoomMerged w (0 + (n - 2))
   join-after w e =
       let K = s .rooms .unfinished in
       let fits = h .fits in
       let jn = join-place in
       let jr = join-room in
-      room-of w K (0 + (n - 2)) (subst (λ (x : MergedStore). SizedMerged x K) (sym e) (sized-merged-copied u u (n - 2) j (s .unfinished - j) K K (h .unfinished) (h .unfinished) jr (omega arith))) (omega arith)
+      room-of w K (0 + (n - 2)) (copied-sized u u w (n - 2) j (s .unfinished - j) K K (h .unfinished) (h .unfinished) e jr (omega arith)) (omega arith)
 
-  pub was-joined : (r : Stand) (w : MergedStore) → w ≡ copiedMerged (copiedMerged u (n - 2) u j (s .unfinished - j)) 0 k at (n - 2) → r ≡ withUnfinished (withoutLast s) (n - 2 + (s .unfinished - j))
+  pub was-joined : (r : Stand) (v w : MergedStore) → CopiedInUse u (n - 2) u j (s .unfinished - j) v → CopiedInUse v 0 k at (n - 2) w
+      → r ≡ withUnfinished (withoutLast s) (n - 2 + (s .unfinished - j))
       → HasUnfinished (withoutLast s) r w (joined (storedStroke k at n) (keptUnfinished s u))
   unfolding withoutLast
-  was-joined r w f e =
+  was-joined r v w d f e =
       let K = s .rooms .unfinished in
       let S = s .rooms .strokes in
       let m = n - 2 in
@@ -324,11 +336,11 @@ module _ (s : Stand) (u k : MergedStore) (at n j : ℕ) (h : CanJoin s u k at n)
       let fits = h .fits in
       let jn = join-place in
       let jr = join-room in
-      let first = sized-merged-copied u u m j i K K (h .unfinished) (h .unfinished) (omega arith) (omega arith) in
+      let first = copied-sized u u v m j i K K (h .unfinished) (h .unfinished) d (omega arith) (omega arith) in
       let z = zero-add m in
-      has-unfinished (withoutLast s) r w (copiedMerged (copiedMerged u m u j i) 0 k at m) (m + i) (joined (storedStroke k at n) (keptUnfinished s u)) e f
-      (sized-merged-copied (copiedMerged u m u j i) k 0 at m K S first (h .strokes) (omega arith) (omega arith))
+      has-unfinished (withoutLast s) r w w (m + i) (joined (storedStroke k at n) (keptUnfinished s u)) e refl
+      (copied-sized v k w 0 at m K S first (h .strokes) f (omega arith) (omega arith))
       jr
-      (ap (take (m + i)) (merged-copied (copiedMerged u m u j i) k 0 at m K S first (h .strokes) ∙ ap (λ (x : List Merged). copied x 0 (mergedBars k) at m) (merged-copied u u m j i K K (h .unfinished) (h .unfinished)))
+      (ap (take (m + i)) (copied-read v k w 0 at m K S first (h .strokes) f ∙ ap (λ (x : List Merged). copied x 0 (mergedBars k) at m) (copied-read u u v m j i K K (h .unfinished) (h .unfinished) d))
       ∙ joined-rows (mergedBars u) (mergedBars k) m j (s .unfinished) at jn (rw (merged-length u K (h .unfinished)) fits) (rw (merged-length u K (h .unfinished)) jr) (rw (merged-length k S (h .strokes)) (omega arith))
       ∙ sym join-reads)

@@ -4,7 +4,7 @@ ghost use Prim.Native.Nat.{_+_, _-_, _/_, _≤_, _<_};
 ghost use mathlib.Core.List.{[], _∷_, _++_};
 ghost use lib.ListN.{length, take, drop};
 ghost use Rattle.bars.specs.Lists.{copied};
-ghost use Rattle.stores.specs.Code.StoreRows.{RoomRaw, RoomMerged, MovedToStart};
+ghost use Rattle.stores.specs.Code.StoreRows.{RoomRaw, RoomMerged, CopiedInUse};
 ghost use Rattle.strokes.specs.StateRead.{barCounts, fractalCounts, total};
 ghost use Rattle.strokes.specs.Lent.{fractalsHeld, fractalsBefore, fractalsAfter};
 ghost use Rattle.machine.specs.Fractals.{taken};
@@ -313,9 +313,9 @@ fn move_strokes_down(
     n: usize,
 )
     requires { ⌜ RoomMerged (mergedHeld st si sp sc se) (from + n) ⌝ ∗ ⌜ RoomFractals (fractalsHeld fs fp) (from + n) ⌝ }
-    ensures { λ _. ⌜ MovedToStart (mergedBefore st si sp sc se) from n (mergedAfter st si sp sc se) × ((fractalsAfter fs fp) ≡ copiedFractals (fractalsBefore fs fp) 0 (fractalsBefore fs fp) from n) ⌝ }
+    ensures { λ _. ⌜ CopiedInUse (mergedBefore st si sp sc se) 0 (mergedBefore st si sp sc se) from n (mergedAfter st si sp sc se) × ((fractalsAfter fs fp) ≡ copiedFractals (fractalsBefore fs fp) 0 (fractalsBefore fs fp) from n) ⌝ }
 {
-    stores::move_new_bars_to_start(st, si, sp, sc, se, from, n);
+    stores::move_new_bars_down(st, si, sp, sc, se, from, 0, n);
     down_stamps(fs, from, 0, n);
     down_fractal_prices(fp, from, 0, n);
 }

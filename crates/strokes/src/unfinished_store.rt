@@ -4,7 +4,7 @@ ghost use mathlib.Core.List.{[], _∷_};
 ghost use Prim.Native.Nat.{_+_, _≤_};
 ghost use lib.ListN.{drop};
 ghost use lib.Dec.{T};
-ghost use Rattle.stores.specs.Code.StoreRows.{SizedMerged, RoomMerged, copiedMerged};
+ghost use Rattle.stores.specs.Code.StoreRows.{SizedMerged, RoomMerged, CopiedInUse};
 ghost use Rattle.bars.specs.Merging.{mergeIn, mergeAll, atTimes};
 ghost use Rattle.machine.specs.Break.{joined};
 ghost use Rattle.strokes.specs.Code.BarSteps.{HasUnfinished, CanMerge, RisingRaw, LastHas, CanJoin, mergedAgain, keptRaw, keptUnfinished, withoutLast, storedStroke};
@@ -27,7 +27,7 @@ fn bring_down(
     n: usize,
 )
     requires { ⌜ at ≤ from ⌝ ∗ ⌜ RoomMerged (mergedHeld ut ui up uc ue) (from + n) ⌝ }
-    ensures { λ _. ⌜ (mergedAfter ut ui up uc ue) ≡ copiedMerged (mergedBefore ut ui up uc ue) at (mergedBefore ut ui up uc ue) from n ⌝ }
+    ensures { λ _. ⌜ CopiedInUse (mergedBefore ut ui up uc ue) at (mergedBefore ut ui up uc ue) from n (mergedAfter ut ui up uc ue) ⌝ }
 {
     stores::move_new_bars_down(
         &mut ut[at..],
@@ -53,7 +53,7 @@ fn bring_up(
     n: usize,
 )
     requires { ⌜ from ≤ at ⌝ ∗ ⌜ RoomMerged (mergedHeld ut ui up uc ue) (at + n) ⌝ }
-    ensures { λ _. ⌜ (mergedAfter ut ui up uc ue) ≡ copiedMerged (mergedBefore ut ui up uc ue) at (mergedBefore ut ui up uc ue) from n ⌝ }
+    ensures { λ _. ⌜ CopiedInUse (mergedBefore ut ui up uc ue) at (mergedBefore ut ui up uc ue) from n (mergedAfter ut ui up uc ue) ⌝ }
 {
     stores::move_new_bars_up(
         &mut ut[from..],
@@ -79,7 +79,7 @@ fn bring(
     n: usize,
 )
     requires { ⌜ RoomMerged (mergedHeld ut ui up uc ue) (from + n) ⌝ ∗ ⌜ RoomMerged (mergedHeld ut ui up uc ue) (at + n) ⌝ }
-    ensures { λ _. ⌜ (mergedAfter ut ui up uc ue) ≡ copiedMerged (mergedBefore ut ui up uc ue) at (mergedBefore ut ui up uc ue) from n ⌝ }
+    ensures { λ _. ⌜ CopiedInUse (mergedBefore ut ui up uc ue) at (mergedBefore ut ui up uc ue) from n (mergedAfter ut ui up uc ue) ⌝ }
 {
     if from < at {
         bring_up(ut, ui, up, uc, ue, from, at, n);

@@ -65,19 +65,17 @@ unfolding copied
 copiedRaw d at s from n =
     rawStore (copied (d .times) at (s .times) from n) (copied (d .ids) at (s .ids) from n) (copied (d .prices) at (s .prices) from n)
 
-unfoldable pub copiedMerged : MergedStore → ℕ → MergedStore → ℕ → ℕ → MergedStore
-unfolding copied copiedRaw
-copiedMerged d at s from n =
-    let r = copiedRaw (rawPart d) at (rawPart s) from n in
-    mergedStore (r .times) (r .ids) (r .prices) (copied (d .counts) at (s .counts) from n) (copied (d .elements) at (s .elements) from n)
+-- cs' and es' are the columns cs of counts and es of elements with their n rows from place `at` on replaced by the n rows of the columns ds and fs from place `from`
+-- on, of the elements what is in use. The places of a row beyond its count are free (document 01): nothing is said of them.
+pub record RowsCopied (cs : List ℕ) (es : List (List ℤ)) (at : ℕ) (ds : List ℕ) (fs : List (List ℤ)) (from n : ℕ) (cs' : List ℕ) (es' : List (List ℤ)) : Type 0 where
+  pub counts : cs' ≡ copied cs at ds from n
+  pub elements : inUse cs' es' ≡ copied (inUse cs es) at (inUse ds fs) from n
+  pub places : length es' ≡ length es
 
--- w is the store m with its n bars from place `from` on copied to the beginning, of the elements what is in use. The places of a row beyond its count are
--- free (document 01): nothing is said of them.
-pub record MovedToStart (m : MergedStore) (from n : ℕ) (w : MergedStore) : Type 0 where
-  pub raw : rawPart w ≡ copiedRaw (rawPart m) 0 (rawPart m) from n
-  pub counts : w .counts ≡ copied (m .counts) 0 (m .counts) from n
-  pub elements : inUse (w .counts) (w .elements) ≡ copied (inUse (m .counts) (m .elements)) 0 (inUse (m .counts) (m .elements)) from n
-  pub rows : length (w .elements) ≡ length (m .elements)
+-- w is the store d with its n bars from place `at` on replaced by the n bars of the store s from place `from` on, of the elements what is in use
+pub record CopiedInUse (d : MergedStore) (at : ℕ) (s : MergedStore) (from n : ℕ) (w : MergedStore) : Type 0 where
+  pub raw : rawPart w ≡ copiedRaw (rawPart d) at (rawPart s) from n
+  pub rows : RowsCopied (d .counts) (d .elements) at (s .counts) (s .elements) from n (w .counts) (w .elements)
 
 -- ds and fs are the columns cs of counts and es of elements with another row at a place, of which the times l are in use, at most 101. Of the row's other
 -- places nothing is said.

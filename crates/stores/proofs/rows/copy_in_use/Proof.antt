@@ -1,105 +1,64 @@
 use borrow.Author.Needs.{needs}
 use Prim.Native.Nat.{_≤_, _-_}
-use mathlib.Core.Path.{_≡_, refl, sym, _∙_}
-use native.Mathlib.Omega.{arith}
-use mathlib.Core.List.{[]}
-use lib.ListN.{length, getD, set}
-use lib.IntN.{pos}
-use mir.Syntax.{w64}
-use mir.ValLaws.{toZ-ofZ}
-use Rattle.bars.specs.Lists.{copied}
-use Rattle.stores.proofs.InUse.{row-none, row-turn, row-end}
+use mathlib.Core.Path.{_≡_, refl}
+use lib.ListN.{length}
+use Rattle.stores.specs.Code.StoreRows.{RowsCopied}
+use Rattle.stores.proofs.InUse.{rows-none, copy-rows-turn, rows-end}
 use Rattle.stores.proofs.rows.copy_in_use.Statement.{statement}
 use Rattle.stores.proofs.rows.copy_in_use.Tie as tie
 
 abbrev Inv-loop : tie.InvT-loop
-Inv-loop es₀ from at count m n k₀ es k = (k ≤ n) × (es ≡ set es₀ at (copied (getD es₀ at []) 0 (getD es₀ from []) 0 k)) × (length es ≡ length es₀)
+Inv-loop cs es counts₀ elements₀ n i₀ counts elements i = (i ≤ n) × RowsCopied counts₀ elements₀ 0 cs es 0 i counts elements × (length counts ≡ length counts₀) × (length elements ≡ length elements₀)
 
 abbrev μ-loop : tie.MeasureT-loop
-μ-loop es₀ from at count m n k₀ es k = n - k
-
-mul-in-row : tie.Need-mul-in-row Inv-loop μ-loop
-mul-in-row c = search needs
-
-index-1-in-row : tie.Need-index-1-in-row Inv-loop μ-loop
-index-1-in-row c = search needs
-
-in-row-requires : tie.Need-in-row-requires Inv-loop μ-loop
-in-row-requires c κs = search needs
-
-mul-in-row-2 : tie.Need-mul-in-row-2 Inv-loop μ-loop
-mul-in-row-2 c = search needs
-
-index-1-in-row-2 : tie.Need-index-1-in-row-2 Inv-loop μ-loop
-index-1-in-row-2 c = search needs
-
-in-row-requires-2 : tie.Need-in-row-requires-2 Inv-loop μ-loop
-in-row-requires-2 c κs = search needs
+μ-loop cs es counts₀ elements₀ n i₀ counts elements i = n - i
 
 loop-holds : tie.Need-loop-holds Inv-loop μ-loop
-loop-holds c = let a = c .before .before .before .before .before .before .args in (search needs, row-none (a .es .now) (a .from) (a .at), refl)
+loop-holds c = let a = c .before .before .args in (search needs, rows-none (a .counts .now) (a .elements .now) 0 (a .cs .now) (a .es .now) 0, refl, refl)
 
-mul-time : tie.Need-mul-time Inv-loop μ-loop
-mul-time c = search needs
+mul-count : tie.Need-mul-count Inv-loop μ-loop
+mul-count c = search needs
 
-index-2-time : tie.Need-index-2-time Inv-loop μ-loop
-index-2-time c =
-    let b = c .before .before in
-    let q = b .before .before .before .before .in-row-arg2 .given .0 in
-    let r = b .before .in-row-arg4 .given .0 in
-    let m = b .before .before .before .in-row .ensures in
-    let n = b .in-row2 .ensures in
-    omega (arith, r, n, c .loop-test .taken)
+shared-slice-read-count : tie.Need-shared-slice-read-count Inv-loop μ-loop
+shared-slice-read-count c = search needs
 
-mul-time-2 : tie.Need-mul-time-2 Inv-loop μ-loop
-mul-time-2 c = let k = index-2-time c in search needs
+mul-counts : tie.Need-mul-counts Inv-loop μ-loop
+mul-counts c = search needs
 
-index-1-time : tie.Need-index-1-time Inv-loop μ-loop
-index-1-time c = search needs
+slice-write-counts : tie.Need-slice-write-counts Inv-loop μ-loop
+slice-write-counts c = search needs
 
-mul-time-3 : tie.Need-mul-time-3 Inv-loop μ-loop
-mul-time-3 c = search needs
+copy-row-requires : tie.Need-copy-row-requires Inv-loop μ-loop
+copy-row-requires c κs = search needs
 
-mul-time-4 : tie.Need-mul-time-4 Inv-loop μ-loop
-mul-time-4 c = let k = index-2-time (c .before) in search needs
-
-index-1-time-2 : tie.Need-index-1-time-2 Inv-loop μ-loop
-index-1-time-2 c = search needs
-
-index-2-time-2 : tie.Need-index-2-time-2 Inv-loop μ-loop
-index-2-time-2 c = index-2-time (c .before)
-
-add-k : tie.Need-add-k Inv-loop μ-loop
-add-k c = search needs
+add-i : tie.Need-add-i Inv-loop μ-loop
+add-i c = search needs
 
 loop-less : tie.Need-loop-less Inv-loop μ-loop
 loop-less c = search needs
 
 loop-again : tie.Need-loop-again Inv-loop μ-loop
 loop-again c =
-    let b = c .before .before .before in
-    let q = b .before .before .before .before .in-row-arg2 .given .0 in
-    let r = b .before .in-row-arg4 .given .0 in
-    let m = b .before .before .before .in-row .ensures in
-    let n = b .in-row2 .ensures in
-    let a = b .before .before .before .before .before .before .args in
-    let l = c .before .before .loop in
-    let t = c .before .loop-test .taken in
-    (omega (arith, t), row-turn (a .es .now) (l .es) (a .from) (a .at) (l .k) _ (l .inv .1) (search needs) (omega (arith, r, n, t)) (omega (arith, q, m, r, n, t)) (toZ-ofZ w64 (getD (getD (l .es) (a .from) []) (l .k) (pos 0)) (record { sfits = c .time .given })), search needs)
+    let a = c .before .before .before .before .before .before .before .before .args in
+    let l = c .before .before .before .before .before .loop in
+    let r = c .before .copy-row .ensures in (
+      search needs,
+      copy-rows-turn (a .counts .now) (a .elements .now) (l .counts) (l .elements) _ (a .cs .now) (a .es .now) (l .i) _ (l .inv .1) (search needs) (search needs) (search needs) (search needs) refl (r .0) (r .1),
+      search needs,
+      search needs,
+    )
 
 same-length : tie.Need-same-length Inv-loop μ-loop
 same-length c = search needs
 
+same-length-2 : tie.Need-same-length-2 Inv-loop μ-loop
+same-length-2 c = search needs
+
 returns : tie.Need-returns Inv-loop μ-loop
 returns c =
-    let b = c .before .before in
-    let q = b .before .before .before .before .in-row-arg2 .given .0 in
-    let r = b .before .in-row-arg4 .given .0 in
-    let m = b .before .before .before .in-row .ensures in
-    let n = b .in-row2 .ensures in
-    let a = b .before .before .before .before .before .before .args in
+    let a = c .before .before .before .before .args in
     let l = c .before .loop in
-    row-end (a .es .now) (l .es) (a .from) (a .at) (a .count) _ _ (l .k) (l .inv .1) (search needs) m n (r ∙ sym q) (l .inv .0) (c .loop-test .left)
+    rows-end (a .counts .now) (a .elements .now) 0 (a .cs .now) (a .es .now) 0 (l .i) (a .n) (l .counts) (l .elements) (l .inv .1) (search needs) (search needs)
 
 pub copy-in-use-spec : {M : Type 1} → statement M
 copy-in-use-spec =
@@ -107,23 +66,15 @@ copy-in-use-spec =
     (tie.spec
     Inv-loop
     μ-loop
-    mul-in-row
-    index-1-in-row
-    in-row-requires
-    mul-in-row-2
-    index-1-in-row-2
-    in-row-requires-2
     loop-holds
-    mul-time
-    mul-time-2
-    index-1-time
-    index-2-time
-    mul-time-3
-    mul-time-4
-    index-1-time-2
-    index-2-time-2
-    add-k
+    mul-count
+    shared-slice-read-count
+    mul-counts
+    slice-write-counts
+    copy-row-requires
+    add-i
     loop-less
     loop-again
     same-length
+    same-length-2
     returns)

@@ -3,7 +3,7 @@ use mathlib.Core.Path.{refl}
 use Rattle.stores.specs.Stores.{mergedStore}
 use Rattle.strokes.specs.Code.BarSteps.{withUnfinished}
 use Rattle.strokes.proofs.StoredUnfinished.{begun-at}
-use Rattle.strokes.proofs.StoredCounts.{stay-begun}
+use Rattle.strokes.proofs.StoredCounts.{stay-moved}
 use Rattle.strokes.proofs.Stand.begin_at.Statement.{statement}
 use Rattle.strokes.proofs.Stand.begin_at.Tie as tie
 
@@ -35,7 +35,7 @@ returns c =
     let p = c .before .before .before .before .before .before .before .before .before .before .before .before .before .pre in
     let m = mergedStore (a .ut .now) (a .ui .now) (a .up .now) (a .uc .now) (a .ue .now) in
     let moved = c .before .before .before .before .before .before .move-new-bars-down .ensures in
-    (begun-at (a .self) _ m _ (p .0) (a .k) (p .1 .0) (p .1 .1) moved refl, stay-begun m _ (a .k) (a .self .unfinished) (a .self .rooms .unfinished) (p .0) (p .1 .1) (p .1 .0) moved)
+    (begun-at (a .self) _ m _ (p .0) (a .k) (p .1 .0) (p .1 .1) moved refl, stay-moved m _ (a .k) (a .self .unfinished) (a .self .rooms .unfinished) (p .0) (p .1 .1) (p .1 .0) (moved .rows .counts))
 
 pub begin-at-spec : {M : Type 1} → statement M
 begin-at-spec =

@@ -6,8 +6,8 @@ use lib.ListN.{take, getD}
 use lib.IntN.{ℤ, pos}
 use mir.Syntax.{w64}
 use mir.ValLaws.{toZ-ofZ}
-use Rattle.stores.specs.Stores.{MergedStore, mergedStore}
-use Rattle.stores.specs.Code.StoreRows.{copiedMerged, placeOf}
+use Rattle.stores.specs.Stores.{mergedStore}
+use Rattle.stores.specs.Code.StoreRows.{placeOf}
 use Rattle.strokes.specs.Code.BarSteps.{withUnfinished, withoutLast}
 use Rattle.strokes.proofs.StoredUnfinished.{room-of, join-place, join-room, join-after, was-joined}
 use Rattle.strokes.proofs.StoredCounts.{stay-joined}
@@ -91,8 +91,9 @@ returns c =
     let t = toZ-ofZ w64 (getD (a .st .now) (a .at + (a .rows - 2)) (pos 0)) (record { sfits = c .before .before .before .before .before .before .before .before .before .before .before .before .before .before .before .before .before .before .before .before .before .before .before .before .before .before .t .given }) in
     let p = c .before .before .before .before .before .before .before .before .before .before .before .before .before .before .before .before .before .before .before .before .before .before .before .before .count-before .ensures ∙ ap (λ (x : ℤ). placeOf x (take (a .self .unfinished) (a .ut .now))) t in
     let h = c .before .before .before .before .before .before .before .before .before .before .before .before .before .before .before .before .before .before .before .before .before .before .before .before .before .before .before .before .before .before .pre in
-    let joins = c .before .before .before .before .before .before .join-new-bars .ensures ∙ ap (λ (x : MergedStore). copiedMerged x 0 k (a .at) (a .rows - 2)) (c .before .before .before .before .before .before .before .before .before .before .before .before .before .before .before .before .before .before .bring .ensures) in
-    (was-joined (a .self) u k (a .at) (a .rows) _ h p _ _ joins refl, stay-joined (a .self) u k _ (a .at) (a .rows) _ h (join-place (a .self) u k (a .at) (a .rows) _ h p) (join-room (a .self) u k (a .at) (a .rows) _ h p) joins)
+    let brings = c .before .before .before .before .before .before .before .before .before .before .before .before .before .before .before .before .before .before .bring .ensures in
+    let joins = c .before .before .before .before .before .before .join-new-bars .ensures in
+    (was-joined (a .self) u k (a .at) (a .rows) _ h p _ _ _ brings joins refl, stay-joined (a .self) u k _ _ (a .at) (a .rows) _ h (join-place (a .self) u k (a .at) (a .rows) _ h p) (join-room (a .self) u k (a .at) (a .rows) _ h p) (brings .rows .counts) (joins .rows .counts))
 
 pub join-broken-spec : {M : Type 1} → statement M
 join-broken-spec =

@@ -4,8 +4,8 @@ use borrow.Author.Needs.{needs}
 use Rattle.strokes.proofs.strokes_store.move_strokes_down.Statement.{statement}
 use Rattle.strokes.proofs.strokes_store.move_strokes_down.Tie as tie
 
-move-new-bars-to-start-requires : tie.Need-move-new-bars-to-start-requires
-move-new-bars-to-start-requires c κs = search needs
+move-new-bars-down-requires : tie.Need-move-new-bars-down-requires
+move-new-bars-down-requires c κs = search needs
 
 down-stamps-requires : tie.Need-down-stamps-requires
 down-stamps-requires c κs = search needs
@@ -36,13 +36,13 @@ same-length-7 c = search needs
 
 returns : tie.Need-returns
 unfolding copiedFractals
-returns c = (c .before .before .before .before .before .before .before .before .before .before .before .before .move-new-bars-to-start .ensures, λ i. fractalStore (c .before .before .before .before .down-stamps .ensures i) (c .before .down-fractal-prices .ensures i))
+returns c = (c .before .before .before .before .before .before .before .before .before .before .before .before .move-new-bars-down .ensures, λ i. fractalStore (c .before .before .before .before .down-stamps .ensures i) (c .before .down-fractal-prices .ensures i))
 
 pub move-strokes-down-spec : {M : Type 1} → statement M
 move-strokes-down-spec =
     tie.close
     (tie.spec
-    move-new-bars-to-start-requires
+    move-new-bars-down-requires
     down-stamps-requires
     down-fractal-prices-requires
     same-length

@@ -1,6 +1,7 @@
 use borrow.Author.Needs.{needs}
-use Prim.Native.Nat.{_-_}
+use Prim.Native.Nat.{_+_, _-_, _≤_}
 use native.Mathlib.Omega.{arith}
+use lib.ListN.{length}
 use Rattle.stores.specs.Stores.{mergedStore}
 use Rattle.strokes.proofs.StoredUnfinished.{parts-moved}
 use Rattle.strokes.proofs.unfinished_store.bring_up.Statement.{statement}
@@ -90,8 +91,11 @@ same-length-5 c = search needs
 returns : tie.Need-returns
 returns c =
     let a = c .before .before .before .before .before .before .before .before .before .before .before .before .before .args in
-    let h = c .before .before .before .before .before .before .before .before .before .before .before .before .before .pre .0 in
-    parts-moved (a .from) (a .at) (a .from) (a .at - a .from) 0 (a .n) (omega arith) (omega arith) (mergedStore (a .ut .now) (a .ui .now) (a .up .now) (a .uc .now) (a .ue .now)) _ (c .before .before .before .before .before .before .move-new-bars-up .ensures)
+    let p = c .before .before .before .before .before .before .before .before .before .before .before .before .before .pre in
+    let h = p .0 in
+    let counts : a .at + a .n ≤ length (a .uc .now) = p .1 .counts in
+    let elements : a .at + a .n ≤ length (a .ue .now) = p .1 .elements in
+    parts-moved (a .from) (a .at) (a .from) (a .at - a .from) 0 (a .n) (omega arith) (omega arith) (mergedStore (a .ut .now) (a .ui .now) (a .up .now) (a .uc .now) (a .ue .now)) _ (omega arith) (omega arith) (c .before .before .before .before .before .before .move-new-bars-up .ensures)
 
 pub bring-up-spec : {M : Type 1} → statement M
 bring-up-spec =
