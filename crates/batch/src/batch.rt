@@ -68,6 +68,7 @@ fn feed_newest(
             fs,
             fp,
             b,
+            0,
         );
     }
     FeedAnswer {

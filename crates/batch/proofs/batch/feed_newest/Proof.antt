@@ -1,4 +1,5 @@
 use Rattle.strokes.specs.Lent.{storesOf}
+use Rattle.check_bi.proofs.ScanWindows.{clear-none}
 use Rattle.batch.proofs.BatchSteps.{asked-room, feed-asks, feed-refused, feed-lengths}
 use borrow.Author.Needs.{needs}
 use Rattle.batch.proofs.batch.feed_newest.Statement.{statement}
@@ -41,7 +42,7 @@ newest-is-last-requires c κs = asked-room ((start c) .pre)
 
 feed-sound-requires : tie.Need-feed-sound-requires
 unfolding storesOf
-feed-sound-requires c κs = feed-asks ((start-from-newest-is-last (after-newest-is-last (then1 c))) .pre) ((after-newest-is-last (then1 c)) .newest-is-last .ensures) ((then1 c) .if1 .taken)
+feed-sound-requires c κs = (feed-asks ((start-from-newest-is-last (after-newest-is-last (then1 c))) .pre) ((after-newest-is-last (then1 c)) .newest-is-last .ensures) ((then1 c) .if1 .taken), clear-none _)
 
 same-length : tie.Need-same-length
 unfolding storesOf
