@@ -1,7 +1,9 @@
-//! Times update_bar of the Rust and of the port on the same bars, and the port's batch call.
+//! Times update_bar of the Rust and of the port on the same bars, the port's step from a fresh analyzer, and its batch call.
 mod clock;
 mod end;
 mod port;
+mod replayed;
+mod rooms;
 mod series;
 
 use chrono::{TimeZone, Utc};
@@ -9,7 +11,7 @@ use czsc_core::analyze::CZSC;
 use czsc_core::events;
 use czsc_core::objects::{bar::RawBar, freq::Freq};
 use end::End;
-use port::{Columns, Port};
+use port::{Columns, Port, ROOM};
 use series::Fed;
 use std::time::Duration;
 
@@ -71,7 +73,7 @@ fn time_port(port: &mut Port, bars: &[Fed]) -> (Duration, End) {
 fn time_batch(port: &mut Port, bars: &[Fed]) -> (Duration, End) {
     let columns = Columns::new(bars);
     let start = clock::now();
-    let failed = port.feed_all(&columns);
+    let failed = port.feed_all(&columns, [ROOM; 3]);
     let spent = clock::now() - start;
     assert_eq!(failed, 0, "the port refused a bar");
     let [made, broken, shed, fed] = port.sums[0];
@@ -84,7 +86,15 @@ fn least(spent: Vec<Duration>, bars: usize) -> f64 {
     spent.iter().min().unwrap().as_nanos() as f64 / bars as f64
 }
 
-/// The three timed in turns, so that a slow spell of the machine meets all of them.
+/// A time and how often it goes into the Rust's, where it was measured.
+fn beside(rust: f64, port: Option<f64>) -> String {
+    match port {
+        Some(port) => format!("{port:.0} | {:.2}", rust / port),
+        None => "- | -".into(),
+    }
+}
+
+/// The three timed in turns, so that a slow spell of the machine meets all of them, and replay in turns of its own.
 fn measure(name: &str, bars: &[Fed], repeats: usize, port: &mut Port) {
     let mut spent = [vec![], vec![], vec![]];
     for _ in 0..repeats {
@@ -98,14 +108,24 @@ fn measure(name: &str, bars: &[Fed], repeats: usize, port: &mut Port) {
         }
     }
     let [rust, one, batch] = spent.map(|s| least(s, bars.len()));
+    let fresh = beside(rust, replayed::from_fresh(bars, repeats));
     let [made, broken, shed, _] = port.sums[0];
     println!(
-        "| {name} | {} | {rust:.0} | {one:.0} | {:.2} | {batch:.0} | {:.1} | {made} | {broken} | {shed} | {} | {} |",
+        "| {name} | {} | {rust:.0} | {} | {fresh} | {batch:.0} | {:.1} | {made} | {broken} | {shed} | {} | {} |",
         bars.len(),
-        rust / one,
+        beside(rust, Some(one)),
         rust / batch,
         port.raw(),
         port.strokes()
+    );
+}
+
+/// What is to be lent for a series.
+fn measure_rooms(name: &str, bars: &[Fed], port: &mut Port) {
+    let [raw, unfinished, strokes] = rooms::lent(port, bars);
+    println!(
+        "| {name} | {} | {raw} | {unfinished} | {strokes} |",
+        bars.len()
     );
 }
 
@@ -113,46 +133,63 @@ fn repeats_for(bars: usize) -> usize {
     match bars {
         0..=1000 => 41,
         1001..=10000 => 11,
-        _ => 5,
+        10001..=100000 => 5,
+        _ => 2,
     }
 }
 
-fn main() {
-    let only: Vec<String> = std::env::args().skip(1).collect();
-    let styles = [
-        ("random walk", "walk", 0),
-        ("zigzag", "zigzag", 0),
-        ("deep merging", "nested", 0),
-        ("walk, half replaced", "walk", 5),
-        ("merging, half replaced", "nested", 5),
-    ];
-    let mut port = Port::stores();
-    println!(
-        "| series | bars | Rust | port | times | batch | times | made | broken | shed | raw | strokes |"
-    );
-    println!("|---|---|---|---|---|---|---|---|---|---|---|---|");
+/// The series of a table: a name, a style of oracle/generate, how many bars in ten keep the last time, and the lengths.
+const STYLES: [(&str, &str, usize, &[usize]); 5] = [
+    ("random walk", "walk", 0, &[1000, 10000, 100000, 1000000]),
+    ("zigzag", "zigzag", 0, &[1000, 10000, 100000, 1000000]),
+    ("deep merging", "nested", 0, &[1000, 10000, 100000, 1000000]),
+    ("walk, half replaced", "walk", 5, &[1000, 10000, 100000]),
+    (
+        "merging, half replaced",
+        "nested",
+        5,
+        &[1000, 10000, 100000],
+    ),
+];
+
+/// Every series that is asked for, named as in the table or with its number of bars behind it; all of them where none is named.
+fn each_series(only: &[String], mut each: impl FnMut(&str, Vec<Fed>)) {
     let wanted = |name: &str, bars: usize| {
         only.is_empty()
             || only
                 .iter()
                 .any(|o| *o == format!("{name} {bars}") || o == name)
     };
-    for (name, style, replaced) in styles {
-        for bars in [1000, 10000, 100000] {
+    for (name, style, replaced, lengths) in STYLES {
+        for &bars in lengths {
             if wanted(name, bars) {
-                let fed = series::generated(style, bars, replaced);
-                measure(name, &fed, repeats_for(bars), &mut port);
+                each(name, series::generated(style, bars, replaced));
             }
         }
     }
-    for bars in [1250, 2500, 5000] {
+    for bars in [1000, 1250, 2500, 5000] {
         if wanted("rising", bars) {
-            measure(
-                "rising",
-                &series::rising(bars),
-                repeats_for(bars),
-                &mut port,
-            );
+            each("rising", series::rising(bars));
         }
     }
+}
+
+fn main() {
+    let words: Vec<String> = std::env::args().skip(1).collect();
+    let mut port = Port::stores();
+    if words.first().is_some_and(|w| w == "rooms") {
+        println!("| series | bars | raw | unfinished | strokes |");
+        println!("|---|---|---|---|---|");
+        each_series(&words[1..], |name, fed| {
+            measure_rooms(name, &fed, &mut port)
+        });
+        return;
+    }
+    println!(
+        "| series | bars | Rust | port | times | from fresh | times | batch | times | made | broken | shed | raw | strokes |"
+    );
+    println!("|---|---|---|---|---|---|---|---|---|---|---|---|---|---|");
+    each_series(&words, |name, fed| {
+        measure(name, &fed, repeats_for(fed.len()), &mut port)
+    });
 }

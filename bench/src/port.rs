@@ -2,7 +2,7 @@
 use crate::series::Fed;
 
 /// How many bars each store takes: the most there may be.
-const ROOM: usize = 65536;
+pub const ROOM: usize = 65536;
 
 #[link(name = "czsc_c", kind = "static")]
 unsafe extern "C" {
@@ -303,8 +303,9 @@ impl Port {
         }
     }
 
-    /// All bars from a fresh analyzer in one call.
-    pub fn feed_all(&mut self, bars: &Columns) -> u64 {
+    /// All bars from a fresh analyzer in one call, with so many places of each store.
+    pub fn feed_all(&mut self, bars: &Columns, rooms: [usize; 3]) -> u64 {
+        let [raw, unfinished, strokes] = rooms;
         unsafe {
             czsc_feed_all(
                 0,
@@ -316,35 +317,35 @@ impl Port {
                 self.sums.as_mut_ptr(),
                 self.sums.len(),
                 self.rt.as_mut_ptr(),
-                self.rt.len(),
+                raw,
                 self.ri.as_mut_ptr(),
-                self.ri.len(),
+                raw,
                 self.rp.as_mut_ptr(),
-                self.rp.len(),
+                raw,
                 self.ut.as_mut_ptr(),
-                self.ut.len(),
+                unfinished,
                 self.ui.as_mut_ptr(),
-                self.ui.len(),
+                unfinished,
                 self.up.as_mut_ptr(),
-                self.up.len(),
+                unfinished,
                 self.uc.as_mut_ptr(),
-                self.uc.len(),
+                unfinished,
                 self.ue.as_mut_ptr(),
-                self.ue.len(),
+                unfinished,
                 self.st.as_mut_ptr(),
-                self.st.len(),
+                strokes,
                 self.si.as_mut_ptr(),
-                self.si.len(),
+                strokes,
                 self.sp.as_mut_ptr(),
-                self.sp.len(),
+                strokes,
                 self.sc.as_mut_ptr(),
-                self.sc.len(),
+                strokes,
                 self.se.as_mut_ptr(),
-                self.se.len(),
+                strokes,
                 self.fs.as_mut_ptr(),
-                self.fs.len(),
+                strokes,
                 self.fp.as_mut_ptr(),
-                self.fp.len(),
+                strokes,
                 bars.times.as_ptr(),
                 bars.times.len(),
                 bars.ids.as_ptr(),
