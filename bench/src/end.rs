@@ -52,8 +52,8 @@ impl End {
         let mut at = 0;
         let mut strokes = vec![];
         for k in 0..p.strokes() {
-            let n = p.counts[0][k];
-            strokes.push((p.st[at..at + n].to_vec(), p.counts[1][k]));
+            let n = p.counts[0][k] as usize;
+            strokes.push((p.st[at..at + n].to_vec(), p.counts[1][k] as usize));
             at += n;
         }
         End {

@@ -11,7 +11,7 @@ unsafe extern "C" {
         most: usize,
         numbers: *mut [usize; 8],
         numbers_len: usize,
-        counts: *mut [usize; 65],
+        counts: *mut [u32; 65],
         counts_len: usize,
         rt: *const i64,
         rt_len: usize,
@@ -47,7 +47,7 @@ unsafe extern "C" {
     fn czsc_update_bar(
         numbers: *mut [usize; 8],
         numbers_len: usize,
-        counts: *mut [usize; 65],
+        counts: *mut [u32; 65],
         counts_len: usize,
         events: *mut [u64; 3],
         events_len: usize,
@@ -95,7 +95,7 @@ unsafe extern "C" {
         most: usize,
         numbers: *mut [usize; 8],
         numbers_len: usize,
-        counts: *mut [usize; 65],
+        counts: *mut [u32; 65],
         counts_len: usize,
         sums: *mut [u64; 4],
         sums_len: usize,
@@ -141,7 +141,7 @@ unsafe extern "C" {
 /// The packed stand, strokes made, broken and shed, and the lent stores.
 pub struct Port {
     pub numbers: [[usize; 8]; 1],
-    pub counts: [[usize; 65]; 2],
+    pub counts: [[u32; 65]; 2],
     pub events: [[u64; 3]; 1],
     /// of the batch call: made, broken, shed, and bars accepted
     pub sums: [[u64; 4]; 1],

@@ -12,7 +12,7 @@
 
 struct memory {
   size_t numbers[2][8];
-  size_t counts[3][65];
+  uint32_t counts[3][65];
   uint64_t events[2][3];
   uint64_t sums[2][4];
   int64_t rt[ROOM];
