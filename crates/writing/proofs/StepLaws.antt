@@ -66,11 +66,11 @@ module _ (s : Stand) (u k : MergedStore) where
         room = subst (λ (i : ℕ). length (joined (storedStroke k i (lastBars s)) (keptUnfinished s u)) ≤ s .rooms .unfinished) (sym e) (h .room);
       }
 
-  pub joined-last : (at : ℕ) (r : Stand) (w : MergedStore) (l : List Merged) → at ≡ total (take (s .strokes - 1) (s .bars))
-      → HasUnfinished (withoutLast s) r w (joined (storedStroke k at (getD (s .bars) (s .strokes - 1) 0)) l)
+  pub joined-last : (at rows : ℕ) (r : Stand) (w : MergedStore) (l : List Merged) → at ≡ total (take (s .strokes - 1) (s .bars)) → rows ≡ getD (s .bars) (s .strokes - 1) 0
+      → HasUnfinished (withoutLast s) r w (joined (storedStroke k at rows) l)
       → HasUnfinished (withoutLast s) r w (joined (storedStroke k (lastPlace s) (lastBars s)) l)
   unfolding lastPlace lastBars
-  joined-last at r w l e h = subst (λ (i : ℕ). HasUnfinished (withoutLast s) r w (joined (storedStroke k i (lastBars s)) l)) e h
+  joined-last at rows r w l e q h = subst (λ (i : ℕ). HasUnfinished (withoutLast s) r w (joined (storedStroke k i (lastBars s)) l)) e (subst (λ (n : ℕ). HasUnfinished (withoutLast s) r w (joined (storedStroke k at n) l)) q h)
 
 -- ---- what is left
 

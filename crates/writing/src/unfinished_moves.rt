@@ -1,7 +1,8 @@
 // What a feed writes to the unfinished store: the bar that is merged, and the bars that are left once strokes were made or broken. Each
 // step also says that no bar comes to have more than 101 elements.
-ghost use Prim.Native.Nat.{_≤_};
-ghost use lib.ListN.{drop};
+ghost use mathlib.Core.Path.{_≡_};
+ghost use Prim.Native.Nat.{_≤_, _<_};
+ghost use lib.ListN.{drop, getD};
 ghost use lib.Dec.{T};
 ghost use Rattle.stores.specs.Code.StoreRows.{SizedMerged};
 ghost use Rattle.machine.specs.Break.{joined};
@@ -57,6 +58,14 @@ fn begin_from(
     stand.begin_at(ut, ui, up, uc, ue, k)
 }
 
+// How many bars stroke n has.
+fn bars_at(counts: [u32; 65], n: usize) -> usize
+    requires { ⌜ n < 65 ⌝ }
+    ensures { λ r. ⌜ r ≡ getD counts n 0 ⌝ }
+{
+    counts[n] as usize
+}
+
 // The last stroke, whose bars stand in the stroke store, breaks.
 fn join_last(
     stand: Stand,
@@ -78,7 +87,7 @@ fn join_last(
     let counts = stand.bars;
     let n = stand.strokes - 1;
     let at = strokes::total_bars(counts, n);
-    let rows = counts[n] as usize;
+    let rows = bars_at(counts, n);
     stand.join_broken(ut, ui, up, uc, ue, st, si, sp, sc, se, at, rows)
 }
 
