@@ -13,8 +13,7 @@ use Rattle.bars.specs.declared.Bar.{Bar}
 use Rattle.stores.specs.Stores.{RawStore, zipWith, barOf, rawBars}
 use Rattle.stores.specs.Code.StoreRows.{RoomRaw, barAt}
 use Rattle.stores.proofs.Columns.{raw-at}
-use Rattle.machine.specs.Soundness.{newestLast}
-use Rattle.machine.specs.FeedQuestions.{orElse, failedAfter4}
+use Rattle.machine.specs.Feed.{Events}
 use Rattle.machine.specs.Calls.{none-yet}
 use Rattle.machine.specs.Reached.{OneEach}
 use Rattle.machine.proofs.ReachedSound.{reached-sound}
@@ -23,39 +22,26 @@ use Rattle.strokes.specs.StateRead.{settingsOf, stateOf, sized}
 use Rattle.strokes.specs.Lent.{Stores}
 use Rattle.sound.specs.declared.fresh_stand.FreshAnswer.{FreshAnswer}
 use Rattle.sound.specs.FreshStand.{freshOf}
-use Rattle.sound.specs.StandSound.{IsSound}
-use Rattle.question4.proofs.Question4Passed.{is-sound}
 use Rattle.batch.specs.declared.batch.BatchAnswer.{BatchAnswer}
-use Rattle.feed.specs.PortCalls.{failedBy, FeedIs, added, none, acceptedOf}
+use Rattle.feed.specs.PortCalls.{failedBy, FeedIs, added, none, acceptedIf, acceptedOf}
+use Rattle.from_fresh.specs.FromFresh.{FromFresh}
+use Rattle.from_fresh.proofs.OneMoreCall.{events, grown}
+use Rattle.from_fresh.proofs.FromFreshLaws.{from-fresh-begins, from-fresh-calls, from-fresh-sizes}
 use Rattle.batch.specs.BatchCalls.{AllAccepted, BatchFed, BatchIs}
-use Rattle.batch.specs.Code.BatchSteps.{NewestAsked, Begun, CanBatch, CanNext, NextIs, CanAdvance, advanced, leftOf}
-use Rattle.feed.proofs.PortFollows.{refused-4}
+use Rattle.batch.specs.Code.BatchSteps.{CanBatch, CanNext, NextIs, CanAdvance, advanced, leftOf}
 use Rattle.writing.proofs.SameLengths.{SameLengths}
 use Rattle.feed.proofs.PortStays.{calls-lengths}
-use Rattle.batch.proofs.BatchFollows.{accepted-snoc, begun-asks}
 
--- ---- a bar, where only the newest raw bar is in doubt
+-- ---- one more call
 
--- a refusal with the number 4
-refusal : (s : Stand) (m : Stores) (b : Bar) → failedBy s m b ≡ 4 → FeedIs s m b 4 0 0 0 s m
-refusal s m b e =
-    record {
-      failed-is = sym e;
-      refused = λ h. (refl, refl, refl, refl, refl);
-      accepted = λ h. let w : ⊥ = omega arith in absurd w;
-    }
+accepted-snoc : {s t t' : Stand} {m k k' : Stores} {bs : List Bar} {b : Bar} {e : Events} {made broken shed : ℕ}
+    → AllAccepted s m bs e t k → FeedIs t k b 0 made broken shed t' k'
+    → AllAccepted s m (bs ++ b ∷ []) (added e (events made broken shed)) t' k'
+unfolding acceptedIf
+accepted-snoc {b = b} a f =
+    let w = grown (a .calls) f in
+    record { calls = w .calls; taken = w .taken ∙ ap (λ (l : List Bar). l ++ b ∷ []) (a .taken) }
 
--- the clause fails
-pub newest-refused : (s : Stand) (m : Stores) (b : Bar) (t : Bool) → NewestAsked s m → t ≡ newestLast (stateOf s m) → t ≡ false → FeedIs s m b 4 0 0 0 s m
-unfolding failedBy orElse
-newest-refused s m b t a e f =
-    refusal s m b (ap (λ (q : Bool). orElse q 4 (failedAfter4 (settingsOf s) (stateOf s m) b)) (a .question ∙ sym e ∙ f))
-
--- it holds
-pub newest-sound : (s : Stand) (m : Stores) (t : Bool) → NewestAsked s m → t ≡ newestLast (stateOf s m) → t ≡ true → IsSound s m
-newest-sound s m t a e f = is-sound s m (a .question ∙ sym e ∙ f)
-
--- stores of other lengths
 -- ---- before the bar at place i
 
 pub record Going (s : Stand) (m : Stores) (bars : List Bar) (i made broken shed : ℕ) (t : Stand) (k : Stores) : Type 0 where
@@ -68,10 +54,6 @@ pub record Going (s : Stand) (m : Stores) (bars : List Bar) (i made broken shed 
 pub going-start : (s : Stand) (m : Stores) (bars : List Bar) → Going s m bars 0 0 0 0 s m
 unfolding none-yet acceptedOf
 going-start s m bars = record { fed = record { calls = none; taken = refl }; places = omega arith; few-made = omega arith; few-broken = omega arith; few-shed = omega arith }
-
--- what the next bar is asked
-pub going-asks : {s t : Stand} {m k : Stores} {bars : List Bar} {i made broken shed : ℕ} → Begun s m → Going s m bars i made broken shed t k → NewestAsked t k
-going-asks b g = begun-asks b (g .fed .calls)
 
 -- an accepted bar makes, breaks and sheds at most one stroke each
 one-of : {s s' : Stand} {m m' : Stores} {b : Bar} {made broken shed : ℕ} → FeedIs s m b 0 made broken shed s' m' → OneEach (record { made = made; broken = broken; shed = shed })
@@ -177,7 +159,7 @@ module _ {s : Stand} {m k : Stores} {bars : RawStore} {n left : ℕ} {r : BatchA
       let g = o .going in
       let b = before-end h in
       record {
-        asked = going-asks (can .begun) g;
+        reached = from-fresh-calls (can .begun) (g .fed .calls);
         room = room-at bars (r .fed) n (can .room) b;
         few = omega arith;
         few-made = g .few-made;
@@ -283,7 +265,7 @@ left-none zero n i nz = absurd (nz refl)
 left-none (suc f) n i nz = refl
 
 pub same-lengths : {s : Stand} {m k : Stores} {bars : RawStore} {n left : ℕ} {r : BatchAnswer} → CanBatch s m bars n → Onward s m bars n left r k → SameLengths m k
-same-lengths can o = calls-lengths (o .going .fed .calls) ((begun-asks (can .begun) none) .sizes)
+same-lengths can o = calls-lengths (o .going .fed .calls) (from-fresh-sizes (can .begun))
 
 -- ---- the call
 
@@ -321,13 +303,7 @@ pub can-batch : (minimum most : ℕ) (m : Stores) (bars : RawStore) (n : ℕ) (a
     → n ≡ min (min (length (bars .times)) (length (bars .ids))) (length (bars .prices)) → CanBatch (a .stand) m bars n
 can-batch minimum most m bars n a e z c =
     record {
-      begun =
-          record {
-            minimum = minimum;
-            most = most;
-            answered = ap (λ (x : FreshAnswer). x .refused) (sym e) ∙ z;
-            stand = ap (λ (x : FreshAnswer). x .stand) (sym e);
-          };
+      begun = subst (λ (x : FreshAnswer). FromFresh (x .stand) m) (sym e) (from-fresh-begins minimum most m (ap (λ (x : FreshAnswer). x .refused) (sym e) ∙ z));
       room = record { times = omega arith; ids = omega arith; prices = omega arith };
       count = count-is bars ∙ sym c;
     }

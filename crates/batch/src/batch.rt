@@ -5,13 +5,12 @@ ghost use lib.ListN.{length};
 ghost use Rattle.stores.specs.Stores.{rawBars};
 ghost use Rattle.stores.specs.Code.StoreRows.{barAt};
 ghost use Rattle.strokes.specs.Lent.{held, before, after};
-ghost use Rattle.feed.specs.PortCalls.{FeedIs};
 ghost use Rattle.batch.specs.BatchCalls.{BatchIs, BatchFed};
-ghost use Rattle.batch.specs.Code.BatchSteps.{NewestAsked, CanBatch, CanNext, NextIs, CanAdvance, advanced, leftOf};
+ghost use Rattle.batch.specs.Code.BatchSteps.{CanBatch, CanNext, NextIs, CanAdvance, advanced, leftOf};
 ghost use Rattle.stores.specs.Lent.{rawHeld, rawBefore};
 use bars::Bar;
 use feed::FeedAnswer;
-use feed::feed_sound;
+use from_fresh::update_from_fresh;
 use strokes::Stand;
 
 // What the batch call answers: the stand after the last bar that was accepted, how many bars were
@@ -24,59 +23,6 @@ pub struct BatchAnswer {
     pub made: u64,
     pub broken: u64,
     pub shed: u64,
-}
-
-// A feed that asks of question 4 only the clause on the newest raw bar.
-fn feed_newest(
-    stand: Stand,
-    rt: &mut [i64],
-    ri: &mut [i32],
-    rp: &mut [[f64; 6]],
-    ut: &mut [i64],
-    ui: &mut [i32],
-    up: &mut [[f64; 6]],
-    uc: &mut [usize],
-    ue: &mut [[i64; 101]],
-    st: &mut [i64],
-    si: &mut [i32],
-    sp: &mut [[f64; 6]],
-    sc: &mut [usize],
-    se: &mut [[i64; 101]],
-    fs: &mut [[i64; 6]],
-    fp: &mut [[f64; 18]],
-    b: Bar,
-) -> FeedAnswer
-    requires { ⌜ NewestAsked stand (held rt ri rp ut ui up uc ue st si sp sc se fs fp) ⌝ }
-    ensures { λ r. ⌜ FeedIs stand (before rt ri rp ut ui up uc ue st si sp sc se fs fp) b (r .failed) (r .made) (r .broken) (r .shed) (r .stand) (after rt ri rp ut ui up uc ue st si sp sc se fs fp) ⌝ }
-{
-    if sound::newest_is_last(stand, rt, uc, ue) {
-        return feed_sound(
-            stand,
-            rt,
-            ri,
-            rp,
-            ut,
-            ui,
-            up,
-            uc,
-            ue,
-            st,
-            si,
-            sp,
-            sc,
-            se,
-            fs,
-            fp,
-            b,
-        );
-    }
-    FeedAnswer {
-        stand,
-        failed: 4,
-        made: 0,
-        broken: 0,
-        shed: 0,
-    }
 }
 
 // The answer so far with that of one more bar.
@@ -134,7 +80,7 @@ fn feed_next(
     let at = r.fed;
     let stand = r.stand;
     let b = stores::read_bar(bt, bi, bp, at);
-    let a = feed_newest(
+    let a = update_from_fresh(
         stand,
         rt,
         ri,

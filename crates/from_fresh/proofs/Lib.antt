@@ -1,0 +1,2 @@
+pub mod OneMoreCall
+pub mod FromFreshLaws
