@@ -9,6 +9,7 @@ ghost use Rattle.stores.specs.Code.StoreRows.{placeOf};
 ghost use Rattle.check_bi.specs.Code.View.{view, candles};
 ghost use Rattle.asking.specs.Code.FeedPlan.{cutOf, breaksOf, lastWith, keptOf, brokenOf, planOf, refusedOf, InView};
 ghost use Rattle.check_bi.specs.Code.Scan.{foundFrom, FoundFits};
+ghost use Rattle.check_bi.specs.Code.Windows.{NoFractals};
 use check_bi::Candle;
 use check_bi::FoundBi;
 use check_bi::candle_at;
@@ -118,7 +119,8 @@ fn kept_plan(cut: usize, f: FoundBi, total: usize) -> Plan
 }
 
 // No stroke was kept before: the view is cut, and check_bi asked from there on. Where nothing is cut off, the scan that the
-// cut was read from is the one to ask.
+// cut was read from is the one to ask. Before the first stroke nothing is cut off a series without fractals, which grows with every bar: the first `clear` windows
+// of ps, of which it is known, are not looked at again.
 fn first_plan(
     ts: &[i64],
     ps: &[[f64; 6]],
@@ -127,11 +129,12 @@ fn first_plan(
     n: usize,
     m: usize,
     minimum: usize,
+    clear: usize,
 ) -> Plan
-    requires { ⌜ (n ≤ length (now ts)) × (n ≤ length (now ps)) × (m ≤ length (now us)) × (m ≤ length (now qs)) × (n + m < 4294967296) ⌝ }
+    requires { ⌜ (n ≤ length (now ts)) × (n ≤ length (now ps)) × (m ≤ length (now us)) × (m ≤ length (now qs)) × (n + m < 4294967296) ⌝ ∗ ⌜ NoFractals (now ps) clear ⌝ }
     ensures { λ r. ⌜ (let v = candles (view n (now (ts .entry)) m (now (us .entry))) (view n (now (ps .entry)) m (now (qs .entry))) in (r ≡ keptOf (cutOf v) (foundFrom minimum (cutOf v) v) (n + m)) × InView r (n + m)) ⌝ }
 {
-    let s = scan_from(ts, ps, us, qs, n, m, 0);
+    let s = scan_from(ts, ps, us, qs, n, m, 0, clear);
     let begin = s.cut;
     let cut = begin.place;
     let total = n + m;
@@ -172,7 +175,7 @@ fn broken_plan(ts: &[i64], us: &[i64], n: usize, m: usize, f: FoundBi, b: Last, 
 }
 
 // What a feed would do where `kept` strokes are kept, of which `last` is the last, and the unfinished bars after merging are the
-// first n of the store, of times ts and prices ps, then the first m of the tail, of times us and prices qs.
+// first n of the store, of times ts and prices ps, then the first m of the tail, of times us and prices qs. The first `clear` windows of ps hold no fractal.
 pub fn plan_of(
     ts: &[i64],
     us: &[i64],
@@ -183,8 +186,9 @@ pub fn plan_of(
     kept: usize,
     minimum: usize,
     last: Last,
+    clear: usize,
 ) -> Plan
-    requires { ⌜ (n ≤ length (now ts)) × (n ≤ length (now ps)) × (m ≤ length (now us)) × (m ≤ length (now qs)) × (n + m < 4294967296) × (2 ≤ last .bars) × (last .bars < 4294967296) ⌝ }
+    requires { ⌜ (n ≤ length (now ts)) × (n ≤ length (now ps)) × (m ≤ length (now us)) × (m ≤ length (now qs)) × (n + m < 4294967296) × (2 ≤ last .bars) × (last .bars < 4294967296) ⌝ ∗ ⌜ NoFractals (now ps) clear ⌝ }
     ensures { λ r. ⌜ (r ≡ planOf kept minimum last (candles (view n (now (ts .entry)) m (now (us .entry))) (view n (now (ps .entry)) m (now (qs .entry))))) × InView r (n + m) ⌝ }
 {
     let total = n + m;
@@ -193,7 +197,7 @@ pub fn plan_of(
         return kept_plan(0, f, total);
     }
     if kept == 0 {
-        return first_plan(ts, ps, us, qs, n, m, minimum);
+        return first_plan(ts, ps, us, qs, n, m, minimum, clear);
     }
     let f = check_bi(ts, ps, us, qs, n, m, 0, minimum);
     let b = last_with(f, last);

@@ -9,6 +9,7 @@ ghost use Rattle.bars.specs.Code.MergedBars.{mergeBars};
 ghost use Rattle.stores.specs.Stores.{rawBars};
 ghost use Rattle.stores.specs.Code.StoreRows.{SizedRaw};
 ghost use Rattle.check_bi.specs.Code.View.{view, candles};
+ghost use Rattle.check_bi.specs.Code.Windows.{NoFractals};
 ghost use Rattle.strokes.specs.StateRead.{settingsOf, stateOf};
 ghost use Rattle.strokes.specs.Lent.{held, before};
 ghost use Rattle.sound.specs.StandSound.{IsSound};
@@ -135,14 +136,15 @@ fn plan_with(
     rows: usize,
     st: &[i64],
     fp: &[[f64; 18]],
+    clear: usize,
 ) -> Plan
-    requires { ⌜ InColumns (now ut) (now tt) (now up) (now tp) base rows ⌝ ∗ ⌜ HasLast stand (now st) (now fp) ⌝ }
+    requires { ⌜ InColumns (now ut) (now tt) (now up) (now tp) base rows ⌝ ∗ ⌜ HasLast stand (now st) (now fp) ⌝ ∗ ⌜ NoFractals (now up) clear ⌝ }
     ensures { λ r. ⌜ (r ≡ planOf (stand .strokes) (stand .minimum) (lastIn (stand .strokes) stand (now (st .entry)) (now (fp .entry))) (candles (view base (now (ut .entry)) rows (now (tt .entry))) (view base (now (up .entry)) rows (now (tp .entry))))) × InView r (base + rows) ⌝ }
 {
     let kept = stand.strokes;
     let minimum = stand.minimum;
     let last = last_of(stand, st, fp);
-    plan_of(ut, tt, up, tp, base, rows, kept, minimum, last)
+    plan_of(ut, tt, up, tp, base, rows, kept, minimum, last, clear)
 }
 
 // What the feed of a later bar would do. Its tail holds two bars at most.
@@ -154,8 +156,9 @@ fn try_later(
     st: &[i64],
     fp: &[[f64; 18]],
     b: Bar,
+    clear: usize,
 ) -> Tried
-    requires { ⌜ CanPlan stand (rawHeld ut ui up) (now st) (now fp) ⌝ }
+    requires { ⌜ CanPlan stand (rawHeld ut ui up) (now st) (now fp) ⌝ ∗ ⌜ NoFractals (now up) clear ⌝ }
     ensures { λ r. ⌜ TriedWith stand (mergeBars (take (stand .unfinished) (rawBars (rawBefore ut ui up))) b) (now (st .entry)) (now (fp .entry)) r ⌝ }
 {
     let mut tt = [0i64; 3];
@@ -165,11 +168,9 @@ fn try_later(
     let tail = tail_later(ut, ui, up, count, &mut tt, &mut ti, &mut tp, b);
     let base = tail.base;
     let rows = tail.rows;
-    let plan = plan_with(stand, ut, up, &tt, &tp, base, rows, st, fp);
-    Tried {
-        plan,
-        total: base + rows,
-    }
+    let plan = plan_with(stand, ut, up, &tt, &tp, base, rows, st, fp, clear);
+    let total = base + rows;
+    Tried { plan, total }
 }
 
 // What the feed of a bar with the last time would do.
@@ -186,8 +187,9 @@ fn try_again(
     st: &[i64],
     fp: &[[f64; 18]],
     b: Bar,
+    clear: usize,
 ) -> Tried
-    requires { ⌜ CanTry false stand (rawHeld rt ri rp) (mergedHeld ut ui up uc ue) (now st) (now fp) ⌝ }
+    requires { ⌜ CanTry false stand (rawHeld rt ri rp) (mergedHeld ut ui up uc ue) (now st) (now fp) ⌝ ∗ ⌜ NoFractals (now up) clear ⌝ }
     ensures { λ r. ⌜ TriedOf false stand (rawBefore rt ri rp) (mergedBefore ut ui up uc ue) (now (st .entry)) (now (fp .entry)) b r ⌝ }
 {
     let mut tt = [0i64; 103];
@@ -213,11 +215,9 @@ fn try_again(
     );
     let base = tail.base;
     let rows = tail.rows;
-    let plan = plan_with(stand, ut, up, &tt, &tp, base, rows, st, fp);
-    Tried {
-        plan,
-        total: base + rows,
-    }
+    let plan = plan_with(stand, ut, up, &tt, &tp, base, rows, st, fp, clear);
+    let total = base + rows;
+    Tried { plan, total }
 }
 
 // What the feed would do, with the tail in rows of its own.
@@ -235,14 +235,15 @@ fn try_bar(
     fp: &[[f64; 18]],
     later: bool,
     b: Bar,
+    clear: usize,
 ) -> Tried
-    requires { ⌜ CanTry later stand (rawHeld rt ri rp) (mergedHeld ut ui up uc ue) (now st) (now fp) ⌝ }
+    requires { ⌜ CanTry later stand (rawHeld rt ri rp) (mergedHeld ut ui up uc ue) (now st) (now fp) ⌝ ∗ ⌜ NoFractals (now up) clear ⌝ }
     ensures { λ r. ⌜ TriedOf later stand (rawBefore rt ri rp) (mergedBefore ut ui up uc ue) (now (st .entry)) (now (fp .entry)) b r ⌝ }
 {
     if later {
-        return try_later(stand, ut, ui, up, st, fp, b);
+        return try_later(stand, ut, ui, up, st, fp, b, clear);
     }
-    try_again(stand, rt, ri, rp, ut, ui, up, uc, ue, st, fp, b)
+    try_again(stand, rt, ri, rp, ut, ui, up, uc, ue, st, fp, b, clear)
 }
 
 // Questions 5 to 12, of a stand that is sound: question 4 has passed. For the feed above, which proves just that before it calls; no other caller needs it.
@@ -264,8 +265,9 @@ pub fn ask(
     fs: &[[i64; 6]],
     fp: &[[f64; 18]],
     b: Bar,
+    clear: usize,
 ) -> Asked
-    requires { ⌜ IsSound stand (held rt ri rp ut ui up uc ue st si sp sc se fs fp) ⌝ }
+    requires { ⌜ IsSound stand (held rt ri rp ut ui up uc ue st si sp sc se fs fp) ⌝ ∗ ⌜ NoFractals (now up) clear ⌝ }
     ensures { λ r. ⌜ AskedOf (settingsOf stand) (stateOf stand (before rt ri rp ut ui up uc ue st si sp sc se fs fp)) b r ⌝ }
 {
     let rooms = stand.rooms;
@@ -281,7 +283,22 @@ pub fn ask(
             plan,
         };
     }
-    let tried = try_bar(stand, rt, ri, rp, ut, ui, up, uc, ue, st, fp, later, b);
+    let tried = try_bar(
+        stand,
+        rt,
+        ri,
+        rp,
+        ut,
+        ui,
+        up,
+        uc,
+        ue,
+        st,
+        fp,
+        later,
+        b,
+        clear,
+    );
     let plan = tried.plan;
     let total = tried.total;
     let counts = stand.bars;

@@ -18,7 +18,7 @@ use Rattle.machine.specs.declared.Mark.{Mark}
 use Rattle.machine.specs.declared.Mark.the-variants.{D, G}
 use Rattle.check_bi.specs.Code.Scan.{topOf, bottomOf, fractalOf, otherOf, takenOf, markIf, fxAt, putOf, openedOf, stepOf, blank, Small}
 use Rattle.check_bi.specs.Code.View.{view, candleFrom}
-use Rattle.check_bi.specs.Code.Windows.{rowAt, barAt, takenAt, fxIn, NoneBetween, NextWindow}
+use Rattle.check_bi.specs.Code.Windows.{rowAt, barAt, takenAt, fxIn, NoneBetween, NextWindow, NoFractals}
 use Rattle.check_bi.proofs.ScanSteps.{step-none, step-same, step-first, step-put, after-put, after-opened, small-at}
 use Rattle.check_bi.proofs.ScanViews.{view-left, candleOn, Scanning, Scanned, scan-none, scan-began, scan-turned, scan-done}
 
@@ -83,6 +83,36 @@ module _ (t : ℕ → Bool) (n i : ℕ) where
 
   pub next-end : (j : ℕ) → NoneBetween t n i j → n ≤ j + 2 → NextWindow t n i j
   next-end j w e = record { before = w; here = λ h. absurd (omega arith) }
+
+  -- none up to a row, and the next from there on, is the next
+  pub next-behind : (j r : ℕ) → NoneBetween t n i j → NextWindow t n j r → NextWindow t n i r
+  next-behind j r w g =
+      let f = w .from in
+      let l = g .before .from in
+      record {
+        before = record { from = omega arith; within = λ h. ends h (ltb j r) refl; none = λ k x y. by k x y (ltb k j) refl };
+        here = g .here;
+      }
+    where
+      ends : i < r → (b : Bool) → ltb j r ≡ b → r + 1 < n
+      ends h true q = g .before .within (ltb-true j r q)
+      ends h false q =
+          let x = ltb-false j r q in
+          let y = g .before .from in
+          omega (arith, w .within (omega arith))
+
+      by : (k : ℕ) → i ≤ k → k < r → (b : Bool) → ltb k j ≡ b → t k ≡ false
+      by k x y true q = w .none k x (ltb-true k j q)
+      by k x y false q = g .before .none k (ltb-false k j q) y
+
+-- of no window there is nothing to know
+pub clear-none : (ps : List (List Float)) → NoFractals ps 0
+clear-none ps j h = absurd (omega arith)
+
+-- where the first c windows hold no fractal, the scan may begin at row j instead of row i
+pub clear-until : (ps : List (List Float)) (c n i j : ℕ) → NoFractals ps c → (i ≤ j) × (i < j → (j ≤ c) × (j + 1 < n)) → NoneBetween (takenAt ps true D) n i j
+clear-until ps c n i j h w =
+    record { from = w .0; within = λ l. w .1 l .1; none = λ k x y. h k (omega (arith, w .1 (omega arith) .0)) }
 
 -- the windows that lie in the store are those of the view
 module _ (ps qs : List (List Float)) (n m : ℕ) (hp : n ≤ length ps) (hq : m ≤ length qs) (none : Bool) (k : Mark) where

@@ -7,7 +7,7 @@ ghost use lib.ListN.{length, getD, drop};
 ghost use lib.IntN.{pos};
 ghost use Rattle.check_bi.specs.Code.Scan.{candidateOf, cutWith, closesOf, uptoWith, putOf, noFx, blank, openedOf, Small, scanOf, holdsOf, foundIf, foundOf, foundFrom, FoundFits};
 ghost use Rattle.check_bi.specs.Code.View.{view, candleFrom, candles};
-ghost use Rattle.check_bi.specs.Code.Windows.{rowAt, takenAt, fxIn, NextWindow};
+ghost use Rattle.check_bi.specs.Code.Windows.{rowAt, takenAt, fxIn, NextWindow, NoFractals};
 use super::check_fx::Candle;
 use super::check_fx::Fx;
 use super::check_fx::fractal_mark;
@@ -344,7 +344,29 @@ fn fractal_in(
     fx_at(i - lo, k, b)
 }
 
-// All windows of the view from place lo on. Places are counted from there.
+// Where to look for the first fractal of the view from place lo on, if the first `clear` windows of the store's rows hold none: behind those of them that lie in
+// the first n rows, which are the view's windows too.
+fn look_from(n: usize, lo: usize, clear: usize) -> usize
+    ensures { λ r. ⌜ (lo ≤ r) × (lo < r → (r ≤ clear) × (r + 1 < n)) ⌝ }
+{
+    if clear <= lo {
+        return lo;
+    }
+    if n < 2 {
+        return lo;
+    }
+    let whole = n - 2;
+    if clear <= whole {
+        return clear;
+    }
+    if lo <= whole {
+        return whole;
+    }
+    lo
+}
+
+// All windows of the view from place lo on. Places are counted from there. A caller that knows that the first `clear` windows of the store's rows hold no
+// fractal says so, and they are not looked at again: a series that only rises would be looked through from its beginning for every bar. 0 is always true.
 pub fn scan_from(
     ts: &[i64],
     ps: &[[f64; 6]],
@@ -353,14 +375,16 @@ pub fn scan_from(
     n: usize,
     m: usize,
     lo: usize,
+    clear: usize,
 ) -> Scan
-    requires { ⌜ (n ≤ length (now ts)) × (n ≤ length (now ps)) × (m ≤ length (now us)) × (m ≤ length (now qs)) × (n + m < 4294967296) × (lo ≤ n + m) ⌝ }
+    requires { ⌜ (n ≤ length (now ts)) × (n ≤ length (now ps)) × (m ≤ length (now us)) × (m ≤ length (now qs)) × (n + m < 4294967296) × (lo ≤ n + m) ⌝ ∗ ⌜ NoFractals (now ps) clear ⌝ }
     ensures { λ r. ⌜ r ≡ scanOf (drop lo (candles (view n (now (ts .entry)) m (now (us .entry))) (view n (now (ps .entry)) m (now (qs .entry))))) ⌝ }
     ensures { λ r. ⌜ Small r (n + m - lo) × (r .found ≡ true → r .end .place + 2 < n + m - lo) ⌝ }
 {
     let total = n + m;
     let d = Mark::D;
-    let first = next_window(ts, ps, us, qs, n, m, true, d, lo);
+    let from = look_from(n, lo, clear);
+    let first = next_window(ts, ps, us, qs, n, m, true, d, from);
     if total <= first + 2 {
         return blank_scan();
     }
@@ -433,6 +457,6 @@ pub fn check_bi(
     requires { ⌜ (n ≤ length (now ts)) × (n ≤ length (now ps)) × (m ≤ length (now us)) × (m ≤ length (now qs)) × (n + m < 4294967296) × (lo ≤ n + m) ⌝ }
     ensures { λ r. ⌜ (r ≡ foundFrom minimum lo (candles (view n (now (ts .entry)) m (now (us .entry))) (view n (now (ps .entry)) m (now (qs .entry))))) × FoundFits r (n + m - lo) ⌝ }
 {
-    let s = scan_from(ts, ps, us, qs, n, m, lo);
+    let s = scan_from(ts, ps, us, qs, n, m, lo, 0);
     found_bi(s, minimum)
 }

@@ -2,6 +2,7 @@
 ghost use mathlib.Core.Path.{_≡_};
 ghost use Rattle.strokes.specs.Lent.{held, before, after};
 ghost use Rattle.sound.specs.StandSound.{IsSound};
+ghost use Rattle.check_bi.specs.Code.Windows.{NoFractals};
 ghost use Rattle.feed.specs.PortCalls.{FeedIs};
 ghost use Rattle.feed.specs.PortClaims.{PortDemand3};
 use bars::Bar;
@@ -58,7 +59,8 @@ fn handed_back(r: FeedAnswer) -> Updated
 }
 
 // The feed of a stand that question 4 has passed: questions 5 to 12, then the step. Only for callers that prove it sound: those that have just asked question 4 (update_bar, the C names), and the
-// batch call, whose stands come from a fresh analyzer and which asks the one clause that can fail there.
+// batch call, whose stands come from a fresh analyzer and which asks the one clause that can fail there. The first `clear` windows of the unfinished bars hold no
+// fractal: a caller that knows of none says 0.
 pub fn feed_sound(
     stand: Stand,
     rt: &mut [i64],
@@ -77,8 +79,9 @@ pub fn feed_sound(
     fs: &mut [[i64; 6]],
     fp: &mut [[f64; 18]],
     b: Bar,
+    clear: usize,
 ) -> FeedAnswer
-    requires { ⌜ IsSound stand (held rt ri rp ut ui up uc ue st si sp sc se fs fp) ⌝ }
+    requires { ⌜ IsSound stand (held rt ri rp ut ui up uc ue st si sp sc se fs fp) ⌝ ∗ ⌜ NoFractals (now up) clear ⌝ }
     ensures { λ r. ⌜ FeedIs stand (before rt ri rp ut ui up uc ue st si sp sc se fs fp) b (r .failed) (r .made) (r .broken) (r .shed) (r .stand) (after rt ri rp ut ui up uc ue st si sp sc se fs fp) ⌝ }
 {
     let asked = asking::ask(
@@ -99,6 +102,7 @@ pub fn feed_sound(
         fs,
         fp,
         b,
+        clear,
     );
     let failed = asked.failed;
     if failed != 0 {
@@ -201,6 +205,7 @@ impl Czsc {
                 fs,
                 fp,
                 b,
+                0,
             );
             return handed_back(r);
         }

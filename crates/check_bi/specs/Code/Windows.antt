@@ -9,6 +9,7 @@ use lib.Ieee.{Float}
 use Rattle.check_bi.specs.declared.check_fx.Candle.{Candle}
 use Rattle.check_bi.specs.declared.check_fx.Fx.{Fx}
 use Rattle.machine.specs.declared.Mark.{Mark}
+use Rattle.machine.specs.declared.Mark.the-variants.{D}
 use Rattle.check_bi.specs.Code.Scan.{topOf, fxAt, markIf, takenOf}
 use Rattle.check_bi.specs.Code.View.{candleFrom}
 
@@ -41,3 +42,7 @@ pub record NoneBetween (t : ℕ → Bool) (n i r : ℕ) : Type 0 where
 pub record NextWindow (t : ℕ → Bool) (n i r : ℕ) : Type 0 where
   pub before : NoneBetween t n i r
   pub here : r + 2 < n → t r ≡ true
+
+-- the first c windows of the rows hold no fractal; a scan that has taken none does not look at the mark
+abbrev pub NoFractals : List (List Float) → ℕ → Type 0
+NoFractals ps c = (j : ℕ) → j < c → takenAt ps true D j ≡ false

@@ -20,7 +20,7 @@ ask-early-requires c κs =
     let lb : length (s .bars) ≡ 65 = length-unmapped _ (s .bars) 65 (g .1 .1 .1 .1 .1 .1 .1 .1 .0 .1 .0 .1) in
     let lf : length (s .fractals) ≡ 65 = length-unmapped _ (s .fractals) 65 (g .1 .1 .1 .1 .1 .1 .1 .1 .1 .0 .1 .0 .1) in
     let m = storesOf (rawStore (a .rt .now) (a .ri .now) (a .rp .now)) (mergedStore (a .ut .now) (a .ui .now) (a .up .now) (a .uc .now) (a .ue .now)) (mergedStore (a .st .now) (a .si .now) (a .sp .now) (a .sc .now) (a .se .now)) (fractalStore (a .fs .now) (a .fp .now)) in
-    let h = facts s m lb lf (o .pre) in
+    let h = facts s m lb lf (o .pre .0) in
     early-asks s m h
 
 no-plan-requires : tie.Need-no-plan-requires
@@ -36,7 +36,7 @@ returns c =
     let lb : length (s .bars) ≡ 65 = length-unmapped _ (s .bars) 65 (g .1 .1 .1 .1 .1 .1 .1 .1 .0 .1 .0 .1) in
     let lf : length (s .fractals) ≡ 65 = length-unmapped _ (s .fractals) 65 (g .1 .1 .1 .1 .1 .1 .1 .1 .1 .0 .1 .0 .1) in
     let m = storesOf (rawStore (a .rt .now) (a .ri .now) (a .rp .now)) (mergedStore (a .ut .now) (a .ui .now) (a .up .now) (a .uc .now) (a .ue .now)) (mergedStore (a .st .now) (a .si .now) (a .sp .now) (a .sc .now) (a .se .now)) (fractalStore (a .fs .now) (a .fp .now)) in
-    let h = facts s m lb lf (o .pre) in
+    let h = facts s m lb lf (o .pre .0) in
     let e = c .before .before .ask-early .result in
     let q = c .before .before .ask-early .ensures in
     asked-early s m h lb lf (a .b) e q _ (c .before .if1 .taken)
@@ -51,10 +51,10 @@ try-bar-requires c κs =
     let lb : length (s .bars) ≡ 65 = length-unmapped _ (s .bars) 65 (g .1 .1 .1 .1 .1 .1 .1 .1 .0 .1 .0 .1) in
     let lf : length (s .fractals) ≡ 65 = length-unmapped _ (s .fractals) 65 (g .1 .1 .1 .1 .1 .1 .1 .1 .1 .0 .1 .0 .1) in
     let m = storesOf (rawStore (a .rt .now) (a .ri .now) (a .rp .now)) (mergedStore (a .ut .now) (a .ui .now) (a .up .now) (a .uc .now) (a .ue .now)) (mergedStore (a .st .now) (a .si .now) (a .sp .now) (a .sc .now) (a .se .now)) (fractalStore (a .fs .now) (a .fp .now)) in
-    let h = facts s m lb lf (o .pre) in
+    let h = facts s m lb lf (o .pre .0) in
     let e = c .before .ask-early .result in
     let q = c .before .ask-early .ensures in
-    can-try s m h lb lf (a .b) e q
+    (can-try s m h lb lf (a .b) e q, o .pre .1)
 
 total-bars-requires : tie.Need-total-bars-requires
 unfolding storesOf
@@ -66,7 +66,7 @@ total-bars-requires c κs =
     let lb : length (s .bars) ≡ 65 = length-unmapped _ (s .bars) 65 (g .1 .1 .1 .1 .1 .1 .1 .1 .0 .1 .0 .1) in
     let lf : length (s .fractals) ≡ 65 = length-unmapped _ (s .fractals) 65 (g .1 .1 .1 .1 .1 .1 .1 .1 .1 .0 .1 .0 .1) in
     let m = storesOf (rawStore (a .rt .now) (a .ri .now) (a .rp .now)) (mergedStore (a .ut .now) (a .ui .now) (a .up .now) (a .uc .now) (a .ue .now)) (mergedStore (a .st .now) (a .si .now) (a .sp .now) (a .sc .now) (a .se .now)) (fractalStore (a .fs .now) (a .fp .now)) in
-    let h = facts s m lb lf (o .pre) in
+    let h = facts s m lb lf (o .pre .0) in
     let w = sum-small s m h in
     let few = w .1 in
     (w .0, omega arith)
@@ -81,7 +81,7 @@ refused-requires c κs =
     let lb : length (s .bars) ≡ 65 = length-unmapped _ (s .bars) 65 (g .1 .1 .1 .1 .1 .1 .1 .1 .0 .1 .0 .1) in
     let lf : length (s .fractals) ≡ 65 = length-unmapped _ (s .fractals) 65 (g .1 .1 .1 .1 .1 .1 .1 .1 .1 .0 .1 .0 .1) in
     let m = storesOf (rawStore (a .rt .now) (a .ri .now) (a .rp .now)) (mergedStore (a .ut .now) (a .ui .now) (a .up .now) (a .uc .now) (a .ue .now)) (mergedStore (a .st .now) (a .si .now) (a .sp .now) (a .sc .now) (a .se .now)) (fractalStore (a .fs .now) (a .fp .now)) in
-    let h = facts s m lb lf (o .pre) in
+    let h = facts s m lb lf (o .pre .0) in
     let w = (sum-small s m h) .1 in
     let sum = c .total-bars .ensures in
     (omega arith, c .before .before .before .try-bar .ensures .found)
@@ -96,7 +96,7 @@ returns-2 c =
     let lb : length (s .bars) ≡ 65 = length-unmapped _ (s .bars) 65 (g .1 .1 .1 .1 .1 .1 .1 .1 .0 .1 .0 .1) in
     let lf : length (s .fractals) ≡ 65 = length-unmapped _ (s .fractals) 65 (g .1 .1 .1 .1 .1 .1 .1 .1 .1 .0 .1 .0 .1) in
     let m = storesOf (rawStore (a .rt .now) (a .ri .now) (a .rp .now)) (mergedStore (a .ut .now) (a .ui .now) (a .up .now) (a .uc .now) (a .ue .now)) (mergedStore (a .st .now) (a .si .now) (a .sp .now) (a .sc .now) (a .se .now)) (fractalStore (a .fs .now) (a .fp .now)) in
-    let h = facts s m lb lf (o .pre) in
+    let h = facts s m lb lf (o .pre .0) in
     let e = c .before .before .before .before .before .before .ask-early .result in
     let q = c .before .before .before .before .before .before .ask-early .ensures in
     asked-last s m h lb lf (a .b) e q _ _ _ (c .before .before .before .before .before .if1 .left) (c .before .before .before .before .try-bar .ensures) (c .before .total-bars .ensures) (c .refused .ensures)

@@ -10,7 +10,7 @@ plan-of-requires : tie.Need-plan-of-requires
 plan-of-requires c κs =
     let p = c .before .pre .0 in
     let z = c .last-of .ensures in
-    (p .times, p .prices, p .tail-times, p .tail-prices, p .few, z .1, z .2)
+    ((p .times, p .prices, p .tail-times, p .tail-prices, p .few, z .1, z .2), c .before .pre .1 .1)
 
 returns : tie.Need-returns
 returns c = plan-of-last _ _ _ _ _ _ _ (c .before .last-of .ensures .0) (c .plan-of .ensures)

@@ -21,7 +21,7 @@ tail-again-requires c κs =
     let a = o .args in
     let r = rawStore (a .rt .now) (a .ri .now) (a .rp .now) in
     let u = mergedStore (a .ut .now) (a .ui .now) (a .up .now) (a .uc .now) (a .ue .now) in
-    (o .pre .raw, again-tail (a .stand) r u (a .st .now) (a .fp .now) (o .pre) (a .b) _ (record { times = search needs; ids = search needs; prices = search needs }))
+    (o .pre .0 .raw, again-tail (a .stand) r u (a .st .now) (a .fp .now) (o .pre .0) (a .b) _ (record { times = search needs; ids = search needs; prices = search needs }))
 
 slice-aggregate-plan-with : tie.Need-slice-aggregate-plan-with
 slice-aggregate-plan-with c = search needs
@@ -35,17 +35,17 @@ plan-with-requires c κs =
     let a = o .args in
     let r = rawStore (a .rt .now) (a .ri .now) (a .rp .now) in
     let u = mergedStore (a .ut .now) (a .ui .now) (a .up .now) (a .uc .now) (a .ue .now) in
-    let h = can-plan false (a .stand) r u (a .st .now) (a .fp .now) (o .pre) (a .b) in
+    let h = can-plan false (a .stand) r u (a .st .now) (a .fp .now) (o .pre .0) (a .b) in
     let q = c .before .before .before .before .before .tail-again .ensures in
-    (try-columns (a .stand) (rawPart u) (a .st .now) (a .fp .now) h _ 103 _ _ _ (omega arith) (q .0) (q .1), o .pre .last)
+    (try-columns (a .stand) (rawPart u) (a .st .now) (a .fp .now) h _ 103 _ _ _ (omega arith) (q .0) (q .1), (o .pre .0 .last, o .pre .1))
 
-add-t33 : tie.Need-add-t33
-add-t33 c =
+add-total : tie.Need-add-total
+add-total c =
     let o = c .before .before .before .before .before .before .before .before .before .before .before in
     let a = o .args in
     let r = rawStore (a .rt .now) (a .ri .now) (a .rp .now) in
     let u = mergedStore (a .ut .now) (a .ui .now) (a .up .now) (a .uc .now) (a .ue .now) in
-    let h = can-plan false (a .stand) r u (a .st .now) (a .fp .now) (o .pre) (a .b) in
+    let h = can-plan false (a .stand) r u (a .st .now) (a .fp .now) (o .pre .0) (a .b) in
     let q = c .before .before .before .before .before .before .tail-again .ensures in
     let few = (try-columns (a .stand) (rawPart u) (a .st .now) (a .fp .now) h _ 103 _ _ _ (omega arith) (q .0) (q .1)) .few in
     omega arith
@@ -56,9 +56,9 @@ returns c =
     let a = o .args in
     let r = rawStore (a .rt .now) (a .ri .now) (a .rp .now) in
     let u = mergedStore (a .ut .now) (a .ui .now) (a .up .now) (a .uc .now) (a .ue .now) in
-    let h = can-plan false (a .stand) r u (a .st .now) (a .fp .now) (o .pre) (a .b) in
+    let h = can-plan false (a .stand) r u (a .st .now) (a .fp .now) (o .pre .0) (a .b) in
     let q = c .before .before .before .before .before .before .tail-again .ensures in
-    again-tried (a .stand) r u (a .st .now) (a .fp .now) (o .pre) (a .b) _
+    again-tried (a .stand) r u (a .st .now) (a .fp .now) (o .pre .0) (a .b) _
     (try-done (a .stand) (rawPart u) (a .st .now) (a .fp .now) h _ 103 _ _ _ (omega arith) (q .0) (q .1) _ (c .plan-with .ensures))
 
 pub try-again-spec : {M : Type 1} → statement M
@@ -72,5 +72,5 @@ try-again-spec =
     slice-aggregate-plan-with
     slice-aggregate-plan-with-2
     plan-with-requires
-    add-t33
+    add-total
     returns)

@@ -10,7 +10,7 @@ try-later-requires c κs =
     let a = o .args in
     let r = rawStore (a .rt .now) (a .ri .now) (a .rp .now) in
     let u = mergedStore (a .ut .now) (a .ui .now) (a .up .now) (a .uc .now) (a .ue .now) in
-    can-plan (a .later) (a .stand) r u (a .st .now) (a .fp .now) (o .pre) (a .b)
+    (can-plan (a .later) (a .stand) r u (a .st .now) (a .fp .now) (o .pre .0) (a .b), o .pre .1)
 
 returns : tie.Need-returns
 returns c =
@@ -18,7 +18,7 @@ returns c =
     let a = o .args in
     let r = rawStore (a .rt .now) (a .ri .now) (a .rp .now) in
     let u = mergedStore (a .ut .now) (a .ui .now) (a .up .now) (a .uc .now) (a .ue .now) in
-    tried-later (a .later) (a .stand) r u (a .st .now) (a .fp .now) (o .pre) (a .b) _ (c .before .if1 .taken) (c .try-later .ensures)
+    tried-later (a .later) (a .stand) r u (a .st .now) (a .fp .now) (o .pre .0) (a .b) _ (c .before .if1 .taken) (c .try-later .ensures)
 
 try-again-requires : tie.Need-try-again-requires
 try-again-requires c κs =
@@ -26,7 +26,7 @@ try-again-requires c κs =
     let a = o .args in
     let r = rawStore (a .rt .now) (a .ri .now) (a .rp .now) in
     let u = mergedStore (a .ut .now) (a .ui .now) (a .up .now) (a .uc .now) (a .ue .now) in
-    can-again (a .later) (a .stand) r u (a .st .now) (a .fp .now) (o .pre) (a .b) (c .if1 .left)
+    (can-again (a .later) (a .stand) r u (a .st .now) (a .fp .now) (o .pre .0) (a .b) (c .if1 .left), o .pre .1)
 
 returns-2 : tie.Need-returns-2
 returns-2 c =
@@ -34,7 +34,7 @@ returns-2 c =
     let a = o .args in
     let r = rawStore (a .rt .now) (a .ri .now) (a .rp .now) in
     let u = mergedStore (a .ut .now) (a .ui .now) (a .up .now) (a .uc .now) (a .ue .now) in
-    tried-again (a .later) (a .stand) r u (a .st .now) (a .fp .now) (o .pre) (a .b) _ (c .before .if1 .left) (c .try-again .ensures)
+    tried-again (a .later) (a .stand) r u (a .st .now) (a .fp .now) (o .pre .0) (a .b) _ (c .before .if1 .left) (c .try-again .ensures)
 
 pub try-bar-spec : {M : Type 1} → statement M
 try-bar-spec = tie.close (tie.spec try-later-requires returns try-again-requires returns-2)

@@ -21,7 +21,7 @@ tail-later-requires c κs =
     let o = c .before .before .before in
     let a = o .args in
     let u = rawStore (a .ut .now) (a .ui .now) (a .up .now) in
-    later-tail (a .stand) u _ (a .st .now) (a .fp .now) (o .pre) (record { times = search needs; ids = search needs; prices = search needs })
+    later-tail (a .stand) u _ (a .st .now) (a .fp .now) (o .pre .0) (record { times = search needs; ids = search needs; prices = search needs })
 
 slice-aggregate-plan-with : tie.Need-slice-aggregate-plan-with
 slice-aggregate-plan-with c = search needs
@@ -35,15 +35,15 @@ plan-with-requires c κs =
     let a = o .args in
     let u = rawStore (a .ut .now) (a .ui .now) (a .up .now) in
     let q = c .before .before .before .before .before .tail-later .ensures in
-    (try-columns (a .stand) u (a .st .now) (a .fp .now) (o .pre) _ _ _ _ _ (search needs) (q .0) (q .1), o .pre .last)
+    (try-columns (a .stand) u (a .st .now) (a .fp .now) (o .pre .0) _ _ _ _ _ (search needs) (q .0) (q .1), (o .pre .0 .last, o .pre .1))
 
-add-t27 : tie.Need-add-t27
-add-t27 c =
+add-total : tie.Need-add-total
+add-total c =
     let o = c .before .before .before .before .before .before .before .before .before .before in
     let a = o .args in
     let u = rawStore (a .ut .now) (a .ui .now) (a .up .now) in
     let q = c .before .before .before .before .before .before .tail-later .ensures in
-    let few = (try-columns (a .stand) u (a .st .now) (a .fp .now) (o .pre) _ _ _ _ _ (search needs) (q .0) (q .1)) .few in
+    let few = (try-columns (a .stand) u (a .st .now) (a .fp .now) (o .pre .0) _ _ _ _ _ (search needs) (q .0) (q .1)) .few in
     omega arith
 
 returns : tie.Need-returns
@@ -52,7 +52,7 @@ returns c =
     let a = o .args in
     let u = rawStore (a .ut .now) (a .ui .now) (a .up .now) in
     let q = c .before .before .before .before .before .before .tail-later .ensures in
-    try-done (a .stand) u (a .st .now) (a .fp .now) (o .pre) _ _ _ _ _ (search needs) (q .0) (q .1) _ (c .plan-with .ensures)
+    try-done (a .stand) u (a .st .now) (a .fp .now) (o .pre .0) _ _ _ _ _ (search needs) (q .0) (q .1) _ (c .plan-with .ensures)
 
 pub try-later-spec : {M : Type 1} → statement M
 try-later-spec =
@@ -65,5 +65,5 @@ try-later-spec =
     slice-aggregate-plan-with
     slice-aggregate-plan-with-2
     plan-with-requires
-    add-t27
+    add-total
     returns)

@@ -2,11 +2,12 @@ use Rattle.check_bi.specs.Code.View.{view, candles}
 use native.Mathlib.Omega.{arith}
 use Prim.Native.Nat.{_+_, _-_}
 use Rattle.check_bi.proofs.ScanFound.{found-law}
+use Rattle.check_bi.proofs.ScanWindows.{clear-none}
 use Rattle.check_bi.proofs.scan.check_bi.Statement.{statement}
 use Rattle.check_bi.proofs.scan.check_bi.Tie as tie
 
 scan-from-requires : tie.Need-scan-from-requires
-scan-from-requires c κs = c .pre
+scan-from-requires c κs = (c .pre, clear-none (c .args .ps .now))
 
 found-bi-requires : tie.Need-found-bi-requires
 found-bi-requires c κs = let s = c .scan-from .ensures .1 .0 in let k = s .last in let f = s .fits in (s .early, omega arith)

@@ -84,7 +84,7 @@ returns : tie.Need-returns
 returns c =
     let o = c .before .before in
     let a = start o .args in
-    feed-no (a .stand) (lent (start o)) (a .b) (o .ask .result .failed) (c .refused .result) (c .refused .ensures) (start o .pre) (o .ask .ensures .failed) (c .before .if1 .taken)
+    feed-no (a .stand) (lent (start o)) (a .b) (o .ask .result .failed) (c .refused .result) (c .refused .ensures) (start o .pre .0) (o .ask .ensures .failed) (c .before .if1 .taken)
 
 -- ---- none is
 
@@ -92,74 +92,74 @@ write-requires : tie.Need-write-requires
 write-requires c κs =
     let o = asked c .before in
     let a = start o .args in
-    can-write (a .stand) (lent (start o)) (a .b) (o .ask .result) (start o .pre) (o .ask .ensures) (asked c .if1 .left)
+    can-write (a .stand) (lent (start o)) (a .b) (o .ask .result) (start o .pre .0) (o .ask .ensures) (asked c .if1 .left)
 
 returns-2 : tie.Need-returns-2
 returns-2 c =
     let o = asked-written c .before in
     let a = start o .args in
     let w = written c .write in
-    feed-yes (a .stand) (lent (start o)) (a .b) (o .ask .result) (w .result) _ (start o .pre) (o .ask .ensures) (asked-written c .if1 .left) (w .ensures)
+    feed-yes (a .stand) (lent (start o)) (a .b) (o .ask .result) (w .result) _ (start o .pre .0) (o .ask .ensures) (asked-written c .if1 .left) (w .ensures)
 
 same-length-16 : tie.Need-same-length-16
 unfolding storesOf
-same-length-16 c = (fed-lengths (start (asked-written c .before) .pre) (returns-2 c)) .rt
+same-length-16 c = (fed-lengths (start (asked-written c .before) .pre .0) (returns-2 c)) .rt
 
 same-length-17 : tie.Need-same-length-17
 unfolding storesOf
-same-length-17 c = (fed-lengths (start (asked-written c .before) .pre) (returns-2 c)) .ri
+same-length-17 c = (fed-lengths (start (asked-written c .before) .pre .0) (returns-2 c)) .ri
 
 same-length-18 : tie.Need-same-length-18
 unfolding storesOf
-same-length-18 c = (fed-lengths (start (asked-written c .before) .pre) (returns-2 c)) .rp
+same-length-18 c = (fed-lengths (start (asked-written c .before) .pre .0) (returns-2 c)) .rp
 
 same-length-19 : tie.Need-same-length-19
 unfolding storesOf
-same-length-19 c = (fed-lengths (start (asked-written c .before) .pre) (returns-2 c)) .ut
+same-length-19 c = (fed-lengths (start (asked-written c .before) .pre .0) (returns-2 c)) .ut
 
 same-length-20 : tie.Need-same-length-20
 unfolding storesOf
-same-length-20 c = (fed-lengths (start (asked-written c .before) .pre) (returns-2 c)) .ui
+same-length-20 c = (fed-lengths (start (asked-written c .before) .pre .0) (returns-2 c)) .ui
 
 same-length-21 : tie.Need-same-length-21
 unfolding storesOf
-same-length-21 c = (fed-lengths (start (asked-written c .before) .pre) (returns-2 c)) .up
+same-length-21 c = (fed-lengths (start (asked-written c .before) .pre .0) (returns-2 c)) .up
 
 same-length-22 : tie.Need-same-length-22
 unfolding storesOf
-same-length-22 c = (fed-lengths (start (asked-written c .before) .pre) (returns-2 c)) .uc
+same-length-22 c = (fed-lengths (start (asked-written c .before) .pre .0) (returns-2 c)) .uc
 
 same-length-23 : tie.Need-same-length-23
 unfolding storesOf
-same-length-23 c = (fed-lengths (start (asked-written c .before) .pre) (returns-2 c)) .ue
+same-length-23 c = (fed-lengths (start (asked-written c .before) .pre .0) (returns-2 c)) .ue
 
 same-length-24 : tie.Need-same-length-24
 unfolding storesOf
-same-length-24 c = (fed-lengths (start (asked-written c .before) .pre) (returns-2 c)) .st
+same-length-24 c = (fed-lengths (start (asked-written c .before) .pre .0) (returns-2 c)) .st
 
 same-length-25 : tie.Need-same-length-25
 unfolding storesOf
-same-length-25 c = (fed-lengths (start (asked-written c .before) .pre) (returns-2 c)) .si
+same-length-25 c = (fed-lengths (start (asked-written c .before) .pre .0) (returns-2 c)) .si
 
 same-length-26 : tie.Need-same-length-26
 unfolding storesOf
-same-length-26 c = (fed-lengths (start (asked-written c .before) .pre) (returns-2 c)) .sp
+same-length-26 c = (fed-lengths (start (asked-written c .before) .pre .0) (returns-2 c)) .sp
 
 same-length-27 : tie.Need-same-length-27
 unfolding storesOf
-same-length-27 c = (fed-lengths (start (asked-written c .before) .pre) (returns-2 c)) .sc
+same-length-27 c = (fed-lengths (start (asked-written c .before) .pre .0) (returns-2 c)) .sc
 
 same-length-28 : tie.Need-same-length-28
 unfolding storesOf
-same-length-28 c = (fed-lengths (start (asked-written c .before) .pre) (returns-2 c)) .se
+same-length-28 c = (fed-lengths (start (asked-written c .before) .pre .0) (returns-2 c)) .se
 
 same-length-29 : tie.Need-same-length-29
 unfolding storesOf
-same-length-29 c = (fed-lengths (start (asked-written c .before) .pre) (returns-2 c)) .fs
+same-length-29 c = (fed-lengths (start (asked-written c .before) .pre .0) (returns-2 c)) .fs
 
 same-length-30 : tie.Need-same-length-30
 unfolding storesOf
-same-length-30 c = (fed-lengths (start (asked-written c .before) .pre) (returns-2 c)) .fp
+same-length-30 c = (fed-lengths (start (asked-written c .before) .pre .0) (returns-2 c)) .fp
 
 pub feed-sound-spec : {M : Type 1} → statement M
 feed-sound-spec =

@@ -2,6 +2,7 @@ use mathlib.Core.Path.{_≡_, sym, _∙_}
 use Rattle.strokes.specs.Lent.{Stores, storesOf, held}
 use Rattle.sound.specs.StandSound.{IsSound}
 use Rattle.question4.proofs.Question4Passed.{is-sound}
+use Rattle.check_bi.proofs.ScanWindows.{clear-none}
 use Rattle.feed.proofs.FeedLaws.{feed-4, handed-back, fed-lengths}
 use Rattle.feed.proofs.PortDemand3.{port-demand3}
 use borrow.Author.Needs.{needs}
@@ -37,7 +38,7 @@ sound-at : (c : tie.Then1) → IsSound (start (c .before) .args .self .stand) (l
 sound-at c = is-sound (start (c .before) .args .self .stand) (lent (start (c .before))) (sym (c .before .is-sound .ensures) ∙ c .if1 .taken)
 
 feed-sound-requires : tie.Need-feed-sound-requires
-feed-sound-requires c κs = sound-at (yes c)
+feed-sound-requires c κs = (sound-at (yes c), clear-none _)
 
 handed-back-requires : tie.Need-handed-back-requires
 handed-back-requires c κs = search needs
