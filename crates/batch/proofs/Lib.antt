@@ -1,3 +1,4 @@
 pub mod BatchFollows
 pub mod BatchLoop
 pub mod BatchSteps
+pub mod ClearKept
