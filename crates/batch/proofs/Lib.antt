@@ -1,2 +1,3 @@
 pub mod BatchLoop
 pub mod BatchSteps
+pub mod ClearKept
