@@ -13,7 +13,7 @@ use Rattle.sound.specs.FreshStand.{freshOf}
 use Rattle.batch.specs.declared.batch.BatchAnswer.{BatchAnswer}
 use Rattle.feed.specs.PortCalls.{FeedIs}
 use Rattle.batch.specs.BatchCalls.{BatchFed, BatchIs}
-use Rattle.batch.specs.Code.BatchSteps.{CanBatch, NextIs, advanced, leftOf}
+use Rattle.batch.specs.Code.BatchSteps.{CanBatch, leftOf}
 use Rattle.from_fresh.proofs.FromFreshLaws.{from-fresh-sizes}
 use Rattle.writing.proofs.SameLengths.{SameLengths}
 use Rattle.feed.proofs.PortStays.{calls-lengths}
@@ -23,20 +23,9 @@ use Rattle.batch.proofs.BatchLoop.{Onward, onward-end, can-batch}
 pub batch-lengths : {s : Stand} {m k : Stores} {bars : RawStore} {n : ℕ} {l : List Bar} {r : BatchAnswer} → CanBatch s m bars n → BatchFed s m l r k → SameLengths m k
 batch-lengths can f = calls-lengths (f .fed .calls) (from-fresh-sizes (can .begun))
 
--- ---- one more bar
-
-pub next-is : {r r' : BatchAnswer} {k k' : Stores} {b c : Bar} {f made broken shed : ℕ} {t : Stand} → FeedIs (r .stand) k b f made broken shed t k' → b ≡ c
-    → r' ≡ advanced f r made broken shed t → NextIs r k c r' k'
-next-is {r = r} {k = k} {k' = k'} {f = f} {made = made} {broken = broken} {shed = shed} {t = t} x e y =
-    record {
-      failed = f;
-      made = made;
-      broken = broken;
-      shed = shed;
-      stand = t;
-      feed = subst (λ (z : Bar). FeedIs (r .stand) k z f made broken shed t k') e x;
-      next = y;
-    }
+-- the bar is the one at its place
+pub fed-bar : {s t : Stand} {k k' : Stores} {b c : Bar} {f made broken shed : ℕ} → FeedIs s k b f made broken shed t k' → b ≡ c → FeedIs s k c f made broken shed t k'
+fed-bar {s = s} {t = t} {k = k} {k' = k'} {f = f} {made = made} {broken = broken} {shed = shed} x e = subst (λ (z : Bar). FeedIs s k z f made broken shed t k') e x
 
 pub left-over : (f n i : ℕ) → f ≡ 0 → n ≤ i → 0 ≡ leftOf f n i
 unfolding leftOf

@@ -1,3 +1,2 @@
 pub mod BatchLoop
 pub mod BatchSteps
-pub mod ClearKept

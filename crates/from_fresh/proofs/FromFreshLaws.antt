@@ -1,20 +1,25 @@
 -- What comes from a fresh analyzer by feeds: where it begins, how it goes on, and that of question 4 only the newest raw bar is in doubt there. Assumes nothing.
-use Prim.Native.Nat.{ℕ}
-use mathlib.Core.Path.{_≡_, sym, _∙_, refl}
-use mathlib.Core.Bool.{Bool, true, false}
+use Prim.Native.Nat.{ℕ, _≤_}
+use native.Mathlib.Omega.{arith}
+use mathlib.Core.Path.{_≡_, sym, _∙_, refl, subst}
+use mathlib.Core.Bool.{Bool, true, false, _&&_}
 use mathlib.Core.List.{List, [], _∷_, _++_}
-use lib.Dec.{T}
+use lib.Dec.{T, leb, leb→le}
+use lib.Ieee.Fits.{and-l, and-r}
 use Rattle.bars.specs.declared.Bar.{Bar}
 use Rattle.machine.specs.Feed.{Events}
-use Rattle.machine.specs.Soundness.{newestLast}
+use Rattle.machine.specs.Stand.{Settings}
+use Rattle.machine.specs.Soundness.{isRoom, roomsPass, newestLast}
 use Rattle.machine.specs.Calls.{none-yet}
 use Rattle.strokes.specs.declared.Stand.{Stand}
-use Rattle.strokes.specs.StateRead.{stateOf, sized}
+use Rattle.strokes.specs.StateRead.{settingsOf, stateOf, sized}
 use Rattle.strokes.specs.Lent.{Stores}
 use Rattle.sound.specs.FreshStand.{freshOf}
-use Rattle.sound.specs.StandSound.{IsSound}
+use Rattle.sound.specs.StandSound.{IsSound, storesSound}
 use Rattle.sound.specs.Code.NewestBar.{NewestRoom, NewestIs}
-use Rattle.sound.proofs.NewestLaws.{newest-room}
+use Rattle.sound.proofs.SoundFacts.{stores-sound, clauses}
+use Rattle.sound.proofs.FreshLaws.{fresh-sound}
+use Rattle.sound.proofs.NewestLaws.{lengths, newest-room}
 use Rattle.question4.specs.Question4.{question4}
 use Rattle.question4.proofs.Question4Passed.{is-sound}
 use Rattle.feed.specs.PortCalls.{FeedIs, added, PortCalls, none, call}
@@ -22,7 +27,7 @@ use Rattle.feed.specs.PortClaims.{PortDemand3}
 use Rattle.feed.proofs.FeedLaws.{feed-unsound}
 use Rattle.feed.proofs.PortDemand3.{port-demand3}
 use Rattle.feed.proofs.PortReached.{reached-asks, reached-sizes}
-use Rattle.feed.proofs.PortStays.{calls-lengths}
+use Rattle.feed.proofs.PortStays.{settings-stay, calls-lengths}
 use Rattle.writing.proofs.SameLengths.{SameLengths}
 use Rattle.from_fresh.specs.FromFresh.{FromFresh, freshCalls}
 use Rattle.from_fresh.proofs.OneMoreCall.{events, port-snoc}
@@ -59,6 +64,26 @@ module _ {s : Stand} {m : Stores} (x : FromFresh s m) where
 
   pub from-fresh-asks : question4 s m ≡ newestLast (stateOf s m)
   from-fresh-asks = reached-asks (freshCalls x) (x .answered)
+
+  -- the counts are small
+  rooms-pass : T (roomsPass (settingsOf s))
+  unfolding storesSound
+  rooms-pass =
+      let a = (freshOf (x .minimum) (x .most) (x .lent)) .stand in
+      let h = stores-sound a (x .lent) (fresh-sound (x .minimum) (x .most) (x .lent) (x .answered)) in
+      subst (λ (c : Settings). T (roomsPass c)) (sym (settings-stay (x .calls))) ((clauses (settingsOf a) (stateOf a (x .lent)) (h .state)) .rooms)
+
+  pub from-fresh-small : (s .raw ≤ 65536) × (s .unfinished ≤ 65536)
+  unfolding roomsPass settingsOf isRoom
+  from-fresh-small =
+      let r = s .rooms in
+      let f = lengths s m from-fresh-sizes in
+      let few-raw = f .few-raw in
+      let few-unfinished = f .few-unfinished in
+      let v = isRoom (r .unfinished) && isRoom (r .strokes) in
+      let a = leb→le (r .raw) 65536 (and-r (leb 16 (r .raw)) (leb (r .raw) 65536) (and-l (isRoom (r .raw)) v rooms-pass)) in
+      let b = leb→le (r .unfinished) 65536 (and-r (leb 16 (r .unfinished)) (leb (r .unfinished) 65536) (and-l (isRoom (r .unfinished)) (isRoom (r .strokes)) (and-r (isRoom (r .raw)) v rooms-pass))) in
+      (omega arith, omega arith)
 
   -- as the step asks it
   pub newest-can : NewestRoom s (m .raw .times) (m .unfinished .counts) (m .unfinished .elements)

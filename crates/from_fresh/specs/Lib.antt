@@ -1,1 +1,2 @@
 pub mod FromFresh
+pub mod Code

@@ -1,16 +1,22 @@
 // The step of a feed for callers that prove where their stand came from: a fresh analyzer, by such steps.
 ghost use mathlib.Core.Path.{_≡_};
+ghost use Rattle.check_bi.specs.Code.Windows.{NoFractals};
 ghost use Rattle.strokes.specs.Lent.{held, before, after};
 ghost use Rattle.feed.specs.PortCalls.{FeedIs};
 ghost use Rattle.feed.specs.PortClaims.{PortDemand3};
 ghost use Rattle.from_fresh.specs.FromFresh.{FromFresh};
+
+mod windows;
+
 use bars::Bar;
 use feed::FeedAnswer;
 use feed::feed_sound;
 use strokes::Stand;
+pub use windows::clear_after;
 
 // update_bar of a stand and stores that a list of feeds from a fresh analyzer left. What update_bar ensures; and what is left again comes from a fresh analyzer, so that the next bar may follow. Of
-// question 4 it asks the clause on the newest raw bar alone, at constant cost: the other clauses hold of every such stand.
+// question 4 it asks the clause on the newest raw bar alone, at constant cost: the other clauses hold of every such stand. The first `clear` windows of the unfinished bars hold no fractal: 0, or what
+// clear_after answered of the feed before.
 pub fn update_from_fresh(
     stand: Stand,
     rt: &mut [i64],
@@ -29,8 +35,9 @@ pub fn update_from_fresh(
     fs: &mut [[i64; 6]],
     fp: &mut [[f64; 18]],
     b: Bar,
+    clear: usize,
 ) -> FeedAnswer
-    requires { ⌜ FromFresh stand (held rt ri rp ut ui up uc ue st si sp sc se fs fp) ⌝ }
+    requires { ⌜ FromFresh stand (held rt ri rp ut ui up uc ue st si sp sc se fs fp) ⌝ ∗ ⌜ NoFractals (now up) clear ⌝ }
     ensures { λ r. ⌜ FeedIs stand (before rt ri rp ut ui up uc ue st si sp sc se fs fp) b (r .failed) (r .made) (r .broken) (r .shed) (r .stand) (after rt ri rp ut ui up uc ue st si sp sc se fs fp) × PortDemand3 ⌝ }
     ensures { λ r. ⌜ FromFresh (r .stand) (after rt ri rp ut ui up uc ue st si sp sc se fs fp) ⌝ }
 {
@@ -53,6 +60,7 @@ pub fn update_from_fresh(
             fs,
             fp,
             b,
+            clear,
         );
     }
     FeedAnswer {

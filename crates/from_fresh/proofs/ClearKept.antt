@@ -10,7 +10,7 @@ use mathlib.Core.Logic.{_⊎_, inl, inr}
 use lib.ListN.{length, take, drop, getD, length-append, length-drop}
 use lib.Seq.{getD-take, getD-drop, length-take-le}
 use lib.Dec.{T, leb, ltb}
-use lib.Ieee.{Float, lt}
+use lib.Ieee.{lt}
 use Rattle.bars.specs.declared.Bar.{Bar}
 use Rattle.bars.specs.Bars.{Merged, own, mergedOf}
 use Rattle.bars.specs.Lists.{last, init}
@@ -28,7 +28,7 @@ use Rattle.machine.specs.Feed.{Moved, Events, isLater, rawWith, mergedWith, add
 use Rattle.machine.proofs.FewerFractals.{nothingFound, MadeFrom, check-outcome}
 use Rattle.check_bi.specs.Code.Scan.{candleOf, takenOf, scanOf}
 use Rattle.check_bi.specs.Code.View.{candleFrom}
-use Rattle.check_bi.specs.Code.Windows.{barAt, takenAt}
+use Rattle.check_bi.specs.Code.Windows.{barAt, takenAt, NoFractals}
 use Rattle.check_bi.proofs.ScanPlaces.{cut-means}
 use Rattle.check_bi.proofs.ScanWindows.{taken-timed}
 use Rattle.strokes.specs.declared.Stand.{Stand}
@@ -36,10 +36,6 @@ use Rattle.strokes.specs.StateRead.{storedFractals, strokesWith, settingsOf, ba
 use Rattle.strokes.specs.Lent.{Stores}
 use Rattle.sound.proofs.NewestLaws.{Lengths, lengths}
 use Rattle.feed.specs.PortCalls.{FeedIs}
-
--- the first c windows of these rows of prices hold no fractal
-abbrev pub NoFractals : List (List Float) → ℕ → Type 0
-NoFractals ps c = (j : ℕ) → j < c → takenAt ps true D j ≡ false
 
 -- ---- merging leaves all bars but the last
 
