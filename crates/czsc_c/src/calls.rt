@@ -172,6 +172,7 @@ fn update_packed(
         fs,
         fp,
         b,
+        0,
     );
     hand_over(r, numbers, counts, events)
 }

@@ -309,7 +309,7 @@ fn summary(
     if !e.seen {
         return refused(15);
     }
-    let s = check_bi::scan_from(ut, up, ut, up, m, 0, 0);
+    let s = check_bi::scan_from(ut, up, ut, up, m, 0, 0, 0);
     let count = s.count;
     if count == 0 {
         return refused(15);

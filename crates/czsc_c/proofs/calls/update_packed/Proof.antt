@@ -1,3 +1,4 @@
+use Rattle.check_bi.proofs.ScanWindows.{clear-none}
 use Rattle.czsc_c.proofs.HandedLaws.{fed-handed}
 use Rattle.sound.specs.StandSound.{IsSound}
 use Rattle.strokes.specs.declared.Stand.{Stand}
@@ -18,7 +19,7 @@ unpack-requires : tie.Need-unpack-requires
 unpack-requires c κs = search needs
 
 feed-sound-requires : tie.Need-feed-sound-requires
-feed-sound-requires c κs = let s = c .before .before .before .before .before .before .before .before .before .before .before .before .before .before .before .before .before .before .before .before in subst (λ (z : Stand). IsSound z (lent s)) (sym (c .before .before .before .before .before .before .before .before .before .before .before .before .before .before .before .unpack .ensures)) (s .pre .1)
+feed-sound-requires c κs = let s = c .before .before .before .before .before .before .before .before .before .before .before .before .before .before .before .before .before .before .before .before in (subst (λ (z : Stand). IsSound z (lent s)) (sym (c .before .before .before .before .before .before .before .before .before .before .before .before .before .before .before .unpack .ensures)) (s .pre .1), clear-none _)
 
 hand-over-requires : tie.Need-hand-over-requires
 hand-over-requires c κs = c .before .before .before .before .before .before .before .before .before .before .before .before .before .before .before .before .before .before .before .before .before .before .before .before .before .before .before .before .before .before .before .before .before .before .before .before .before .before .before .before .before .pre .0

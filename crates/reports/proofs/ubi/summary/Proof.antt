@@ -1,6 +1,7 @@
 use mathlib.Core.Path.{sym, _∙_}
 use lib.Seq.{length-take-le}
 use borrow.Author.Tests.{not-true, not-false}
+use Rattle.check_bi.proofs.ScanWindows.{clear-none}
 use Rattle.strokes.specs.Lent.{storesOf}
 use Rattle.reports.proofs.ListFacts.{not-zero, last-asked}
 use Rattle.reports.proofs.UbiFacts.{rising-here, counts-fit, elements-fit, rows-alike, scan-fits, no-strokes, no-bars, no-fxs, first-room, summed-is}
@@ -42,7 +43,7 @@ returns-2 c = let o = c .before .before .before .before .before .before .before 
 
 scan-from-requires : tie.Need-scan-from-requires
 unfolding storesOf
-scan-from-requires c κs = let o = c .before .before .before .before .before .before .before .before .before .before in let k = c .before .before .before .before .before .before .before .kept .ensures in scan-fits _ _ (k .1) (k .2) (o .pre)
+scan-from-requires c κs = let o = c .before .before .before .before .before .before .before .before .before .before in let k = c .before .before .before .before .before .before .before .kept .ensures in (scan-fits _ _ (k .1) (k .2) (o .pre), clear-none _)
 
 refused-requires-3 : tie.Need-refused-requires-3
 refused-requires-3 c κs = search needs
