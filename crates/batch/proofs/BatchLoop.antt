@@ -13,8 +13,7 @@ use Rattle.bars.specs.declared.Bar.{Bar}
 use Rattle.stores.specs.Stores.{RawStore, zipWith, barOf, rawBars}
 use Rattle.stores.specs.Code.StoreRows.{RoomRaw, barAt}
 use Rattle.stores.proofs.Columns.{raw-at}
-use Rattle.machine.specs.Soundness.{newestLast}
-use Rattle.machine.specs.FeedQuestions.{orElse, failedAfter4}
+use Rattle.machine.specs.Feed.{Events}
 use Rattle.machine.specs.Calls.{none-yet}
 use Rattle.machine.specs.Reached.{OneEach}
 use Rattle.machine.proofs.ReachedSound.{reached-sound}
@@ -23,39 +22,28 @@ use Rattle.strokes.specs.StateRead.{settingsOf, stateOf, sized}
 use Rattle.strokes.specs.Lent.{Stores}
 use Rattle.sound.specs.declared.fresh_stand.FreshAnswer.{FreshAnswer}
 use Rattle.sound.specs.FreshStand.{freshOf}
-use Rattle.sound.specs.StandSound.{IsSound}
-use Rattle.question4.proofs.Question4Passed.{is-sound}
 use Rattle.batch.specs.declared.batch.BatchAnswer.{BatchAnswer}
-use Rattle.feed.specs.PortCalls.{failedBy, FeedIs, added, none, acceptedOf}
+use Rattle.feed.specs.PortCalls.{failedBy, FeedIs, added, none, acceptedIf, acceptedOf}
+use Rattle.from_fresh.specs.FromFresh.{FromFresh}
+use Rattle.from_fresh.proofs.OneMoreCall.{events, grown}
+use Rattle.from_fresh.specs.Code.ClearWindows.{Clear, ClearAfter}
+use Rattle.from_fresh.proofs.FromFreshLaws.{from-fresh-begins, from-fresh-next, from-fresh-calls, from-fresh-sizes}
+use Rattle.from_fresh.proofs.ClearNext.{can-look, clear-next}
 use Rattle.batch.specs.BatchCalls.{AllAccepted, BatchFed, BatchIs}
-use Rattle.batch.specs.Code.BatchSteps.{NewestAsked, Begun, CanBatch, CanNext, NextIs, CanAdvance, advanced, leftOf}
-use Rattle.feed.proofs.PortFollows.{refused-4}
+use Rattle.batch.specs.Code.BatchSteps.{CanBatch, CanAdvance, advanced, leftOf}
 use Rattle.writing.proofs.SameLengths.{SameLengths}
 use Rattle.feed.proofs.PortStays.{calls-lengths}
-use Rattle.batch.proofs.BatchFollows.{accepted-snoc, begun-asks}
 
--- ---- a bar, where only the newest raw bar is in doubt
+-- ---- one more call
 
--- a refusal with the number 4
-refusal : (s : Stand) (m : Stores) (b : Bar) → failedBy s m b ≡ 4 → FeedIs s m b 4 0 0 0 s m
-refusal s m b e =
-    record {
-      failed-is = sym e;
-      refused = λ h. (refl, refl, refl, refl, refl);
-      accepted = λ h. let w : ⊥ = omega arith in absurd w;
-    }
+accepted-snoc : {s t t' : Stand} {m k k' : Stores} {bs : List Bar} {b : Bar} {e : Events} {made broken shed : ℕ}
+    → AllAccepted s m bs e t k → FeedIs t k b 0 made broken shed t' k'
+    → AllAccepted s m (bs ++ b ∷ []) (added e (events made broken shed)) t' k'
+unfolding acceptedIf
+accepted-snoc {b = b} a f =
+    let w = grown (a .calls) f in
+    record { calls = w .calls; taken = w .taken ∙ ap (λ (l : List Bar). l ++ b ∷ []) (a .taken) }
 
--- the clause fails
-pub newest-refused : (s : Stand) (m : Stores) (b : Bar) (t : Bool) → NewestAsked s m → t ≡ newestLast (stateOf s m) → t ≡ false → FeedIs s m b 4 0 0 0 s m
-unfolding failedBy orElse
-newest-refused s m b t a e f =
-    refusal s m b (ap (λ (q : Bool). orElse q 4 (failedAfter4 (settingsOf s) (stateOf s m) b)) (a .question ∙ sym e ∙ f))
-
--- it holds
-pub newest-sound : (s : Stand) (m : Stores) (t : Bool) → NewestAsked s m → t ≡ newestLast (stateOf s m) → t ≡ true → IsSound s m
-newest-sound s m t a e f = is-sound s m (a .question ∙ sym e ∙ f)
-
--- stores of other lengths
 -- ---- before the bar at place i
 
 pub record Going (s : Stand) (m : Stores) (bars : List Bar) (i made broken shed : ℕ) (t : Stand) (k : Stores) : Type 0 where
@@ -69,13 +57,12 @@ pub going-start : (s : Stand) (m : Stores) (bars : List Bar) → Going s m bars 
 unfolding none-yet acceptedOf
 going-start s m bars = record { fed = record { calls = none; taken = refl }; places = omega arith; few-made = omega arith; few-broken = omega arith; few-shed = omega arith }
 
--- what the next bar is asked
-pub going-asks : {s t : Stand} {m k : Stores} {bars : List Bar} {i made broken shed : ℕ} → Begun s m → Going s m bars i made broken shed t k → NewestAsked t k
-going-asks b g = begun-asks b (g .fed .calls)
-
 -- an accepted bar makes, breaks and sheds at most one stroke each
 one-of : {s s' : Stand} {m m' : Stores} {b : Bar} {made broken shed : ℕ} → FeedIs s m b 0 made broken shed s' m' → OneEach (record { made = made; broken = broken; shed = shed })
 one-of {s = s} {m = m} {b = b} f = subst OneEach (sym ((f .accepted refl) .1)) (reached-sound .one-each (settingsOf s) (stateOf s m) b)
+
+one-if : {s s' : Stand} {m m' : Stores} {b : Bar} {f made broken shed : ℕ} → f ≡ 0 → FeedIs s m b f made broken shed s' m' → OneEach (record { made = made; broken = broken; shed = shed })
+one-if {s = s} {s' = s'} {m = m} {m' = m'} {b = b} {made = made} {broken = broken} {shed = shed} z f = one-of (subst (λ (n : ℕ). FeedIs s m b n made broken shed s' m') z f)
 
 going-on : {s t t' : Stand} {m k k' : Stores} {bars : List Bar} {i made broken shed ma br sh : ℕ} (b : Bar) → Going s m bars i made broken shed t k
     → i < length bars → getD bars i b ≡ b → FeedIs t k b 0 ma br sh t' k'
@@ -156,6 +143,13 @@ pub record Onward (s : Stand) (m : Stores) (bars : RawStore) (n left : ℕ) (r :
 pub onward-start : (s : Stand) (m : Stores) (bars : RawStore) (n : ℕ) → Onward s m bars n n (record { stand = s; fed = 0; failed = 0; made = 0; broken = 0; shed = 0 }) m
 onward-start s m bars n = record { going = going-start s m (rawBars bars); more = λ z. omega arith; stopped = λ nz. absurd (nz refl) }
 
+-- the answer with one more bar has the stand that the feed left
+fed-stand : {s t : Stand} {k k' : Stores} {b : Bar} (f : ℕ) {made broken shed : ℕ} (r : BatchAnswer) → r .stand ≡ s → FeedIs s k b f made broken shed t k'
+    → t ≡ (advanced f r made broken shed t) .stand
+unfolding advanced
+fed-stand zero r e x = refl
+fed-stand (suc f) r e x = (x .refused (λ z. omega arith)) .0 ∙ sym e
+
 -- a bar is left, so none was refused
 still : (failed left : ℕ) → 0 < left → ((failed ≡ 0 → ⊥) → left ≡ 0) → failed ≡ 0
 still zero left h stop = refl
@@ -172,17 +166,30 @@ module _ {s : Stand} {m k : Stores} {bars : RawStore} {n left : ℕ} {r : BatchA
   before-end h = let e = o .more (none-refused h) in omega arith
 
   -- what the next bar asks
-  pub can-next : 0 < left → n ≤ 18446744073709551615 → CanNext r k bars
-  can-next h top =
-      let g = o .going in
-      let b = before-end h in
+  pub next-room : 0 < left → RoomRaw bars (r .fed + 1)
+  next-room h = room-at bars (r .fed) n (can .room) (before-end h)
+
+  pub next-reached : FromFresh (r .stand) k
+  next-reached = from-fresh-calls (can .begun) (o .going .fed .calls)
+
+  -- what the windows after it ask
+  pub can-look-on : {b : Bar} {c f made broken shed : ℕ} {t : Stand} {k' : Stores} → Clear (r .stand) k c → FeedIs (r .stand) k b f made broken shed t k'
+      → ((r .stand) .raw < 4294967296) × ((r .stand) .unfinished < 4294967296) × (t .unfinished < 4294967296) × (c ≤ (r .stand) .unfinished) × (t .unfinished ≤ length (k' .unfinished .prices))
+  can-look-on w x = can-look next-reached w (from-fresh-next next-reached x)
+
+  -- the sums of one more bar fit
+  pub can-advance : {b : Bar} {f made broken shed : ℕ} {t : Stand} {k' : Stores} → 0 < left → n ≤ 18446744073709551615 → FeedIs (r .stand) k b f made broken shed t k'
+      → CanAdvance r f made broken shed
+  can-advance {b = b} {made = made} {broken = broken} {shed = shed} {t = t} {k' = k'} h top x =
+      let e = before-end h in
+      let a1 = o .going .few-made in
+      let a2 = o .going .few-broken in
+      let a3 = o .going .few-shed in
       record {
-        asked = going-asks (can .begun) g;
-        room = room-at bars (r .fed) n (can .room) b;
-        few = omega arith;
-        few-made = g .few-made;
-        few-broken = g .few-broken;
-        few-shed = g .few-shed;
+        fed = omega arith;
+        made = λ z. let q = (one-if z x) .made in omega arith;
+        broken = λ z. let q = (one-if z x) .broken in omega arith;
+        shed = λ z. let q = (one-if z x) .shed in omega arith;
       }
 
   here : (h : 0 < left) → getD (rawBars bars) (r .fed) (barAt bars (r .fed)) ≡ barAt bars (r .fed)
@@ -212,25 +219,31 @@ module _ {s : Stand} {m k : Stores} {bars : RawStore} {n left : ℕ} {r : BatchA
         stopped = λ q. (e, d);
       }
 
-  -- after the next bar
-  pub onward-next : 0 < left → (r' : BatchAnswer) (k' : Stores) → NextIs r k (barAt bars (r .fed)) r' k' → (l : ℕ) → l ≡ leftOf (r' .failed) n (r' .fed) → Onward s m bars n l r' k'
-  onward-next h r' k' x l e =
-      let a = advanced (x .failed) r (x .made) (x .broken) (x .shed) (x .stand) in
-      subst (λ (z : BatchAnswer). Onward s m bars n l z k') (sym (x .next))
-      (by-number h (x .failed) (x .made) (x .broken) (x .shed) (x .stand) k' (x .feed) l (e ∙ ap (λ (z : BatchAnswer). leftOf (z .failed) n (z .fed)) (x .next)))
+  module _ {f made broken shed l : ℕ} {t : Stand} {k' : Stores} {r' : BatchAnswer} (h : 0 < left) (x : FeedIs (r .stand) k (barAt bars (r .fed)) f made broken shed t k')
+      (next : r' ≡ advanced f r made broken shed t) (e : l ≡ leftOf (r' .failed) n (r' .fed)) where
+    by-next : l ≡ leftOf ((advanced f r made broken shed t) .failed) n ((advanced f r made broken shed t) .fed)
+    by-next = e ∙ ap (λ (z : BatchAnswer). leftOf (z .failed) n (z .fed)) next
 
-  -- fewer are left
-  pub fewer-left : 0 < left → (r' : BatchAnswer) (k' : Stores) → NextIs r k (barAt bars (r .fed)) r' k' → (l : ℕ) → l ≡ leftOf (r' .failed) n (r' .fed) → l < left
-  unfolding advanced leftOf
-  fewer-left h r' k' x l e =
-      fewer-by (x .failed) l (e ∙ ap (λ (z : BatchAnswer). leftOf (z .failed) n (z .fed)) (x .next))
-    where
-      fewer-by : (f l : ℕ) → l ≡ leftOf ((advanced f r (x .made) (x .broken) (x .shed) (x .stand)) .failed) n ((advanced f r (x .made) (x .broken) (x .shed) (x .stand)) .fed) → l < left
-      fewer-by zero l e =
-          let q = o .more (none-refused h) in
-          let u : l ≡ n - (r .fed + 1) = e in
-          omega arith
-      fewer-by (suc c) l e = let u : l ≡ 0 = e in omega arith
+    -- after the next bar
+    pub onward-next : Onward s m bars n l r' k'
+    onward-next = subst (λ (z : BatchAnswer). Onward s m bars n l z k') (sym next) (by-number h f made broken shed t k' x l by-next)
+
+    pub clear-on : {c c' : ℕ} → Clear (r .stand) k c
+        → ClearAfter (k' .unfinished .prices) ((r .stand) .strokes) made ((r .stand) .raw) (t .raw) ((r .stand) .unfinished) (t .unfinished) c c' → Clear (r' .stand) k' c'
+    clear-on {c' = c'} w a =
+        subst (λ (z : Stand). Clear z k' c') (fed-stand f r refl x ∙ ap (λ (z : BatchAnswer). z .stand) (sym next)) (clear-next next-reached w x a)
+
+    -- fewer are left
+    pub fewer-left : l < left
+    unfolding advanced leftOf
+    fewer-left = fewer-by f by-next
+      where
+        fewer-by : (f : ℕ) → l ≡ leftOf ((advanced f r made broken shed t) .failed) n ((advanced f r made broken shed t) .fed) → l < left
+        fewer-by zero e =
+            let q = o .more (none-refused h) in
+            let u : l ≡ n - (r .fed + 1) = e in
+            omega arith
+        fewer-by (suc c) e = let u : l ≡ 0 = e in omega arith
 
   -- none is left
   pub onward-end : (0 < left → ⊥) → BatchFed s m (rawBars bars) r k
@@ -243,22 +256,6 @@ module _ {s : Stand} {m k : Stores} {bars : RawStore} {n left : ℕ} {r : BatchA
           subst (λ (f : ℕ). BatchFed s m (rawBars bars) (record { stand = r .stand; fed = r .fed; failed = f; made = r .made; broken = r .broken; shed = r .shed }) k) (sym z)
           (going-end (o .going) (omega arith))
       end-by (suc f) z = (o .stopped (λ q. omega arith)) .1
-
--- the sums of one more bar fit
-pub can-advance : (r : BatchAnswer) (k k' : Stores) (bars : RawStore) (b : Bar) (f made broken shed : ℕ) (t : Stand) → CanNext r k bars
-    → FeedIs (r .stand) k b f made broken shed t k' → CanAdvance r f made broken shed
-can-advance r k k' bars b f made broken shed t c x =
-    let few = c .few in
-    let a1 = c .few-made in
-    let a2 = c .few-broken in
-    let a3 = c .few-shed in
-    let one : f ≡ 0 → OneEach (record { made = made; broken = broken; shed = shed }) = λ z. one-of (subst (λ (j : ℕ). FeedIs (r .stand) k b j made broken shed t k') z x) in
-    record {
-      fed = few;
-      made = λ z. let o = (one z) .made in omega arith;
-      broken = λ z. let o = (one z) .broken in omega arith;
-      shed = λ z. let o = (one z) .shed in omega arith;
-    }
 
 pub advance-yes : (r : BatchAnswer) (f made broken shed : ℕ) (t : Stand) → f ≡ 0
     → _≡_ {A = BatchAnswer} (record { stand = t; fed = r .fed + 1; failed = 0; made = r .made + made; broken = r .broken + broken; shed = r .shed + shed }) (advanced f r made broken shed t)
@@ -283,7 +280,7 @@ left-none zero n i nz = absurd (nz refl)
 left-none (suc f) n i nz = refl
 
 pub same-lengths : {s : Stand} {m k : Stores} {bars : RawStore} {n left : ℕ} {r : BatchAnswer} → CanBatch s m bars n → Onward s m bars n left r k → SameLengths m k
-same-lengths can o = calls-lengths (o .going .fed .calls) ((begun-asks (can .begun) none) .sizes)
+same-lengths can o = calls-lengths (o .going .fed .calls) (from-fresh-sizes (can .begun))
 
 -- ---- the call
 
@@ -321,13 +318,7 @@ pub can-batch : (minimum most : ℕ) (m : Stores) (bars : RawStore) (n : ℕ) (a
     → n ≡ min (min (length (bars .times)) (length (bars .ids))) (length (bars .prices)) → CanBatch (a .stand) m bars n
 can-batch minimum most m bars n a e z c =
     record {
-      begun =
-          record {
-            minimum = minimum;
-            most = most;
-            answered = ap (λ (x : FreshAnswer). x .refused) (sym e) ∙ z;
-            stand = ap (λ (x : FreshAnswer). x .stand) (sym e);
-          };
+      begun = subst (λ (x : FreshAnswer). FromFresh (x .stand) m) (sym e) (from-fresh-begins minimum most m (ap (λ (x : FreshAnswer). x .refused) (sym e) ∙ z));
       room = record { times = omega arith; ids = omega arith; prices = omega arith };
       count = count-is bars ∙ sym c;
     }

@@ -2,7 +2,6 @@
 use Prim.Native.Nat.{ℕ, zero, suc, _≤_, min}
 use native.Mathlib.Omega.{arith}
 use mathlib.Core.Path.{_≡_, refl, ap, sym, _∙_, subst}
-use mathlib.Core.Bool.{Bool, true, false}
 use mathlib.Core.List.{List}
 use lib.ListN.{length}
 use Rattle.bars.specs.declared.Bar.{Bar}
@@ -11,54 +10,22 @@ use Rattle.strokes.specs.declared.Stand.{Stand}
 use Rattle.strokes.specs.Lent.{Stores}
 use Rattle.sound.specs.declared.fresh_stand.FreshAnswer.{FreshAnswer}
 use Rattle.sound.specs.FreshStand.{freshOf}
-use Rattle.sound.specs.StandSound.{IsSound}
-use Rattle.sound.specs.Code.NewestBar.{NewestRoom, NewestIs}
-use Rattle.sound.proofs.NewestLaws.{newest-room}
 use Rattle.batch.specs.declared.batch.BatchAnswer.{BatchAnswer}
-use Rattle.feed.specs.PortCalls.{FeedIs, none, call}
+use Rattle.feed.specs.PortCalls.{FeedIs}
 use Rattle.batch.specs.BatchCalls.{BatchFed, BatchIs}
-use Rattle.batch.specs.Code.BatchSteps.{NewestAsked, CanBatch, NextIs, advanced, leftOf}
-use Rattle.batch.proofs.BatchFollows.{begun-asks}
+use Rattle.batch.specs.Code.BatchSteps.{CanBatch, leftOf}
+use Rattle.from_fresh.proofs.FromFreshLaws.{from-fresh-sizes}
 use Rattle.writing.proofs.SameLengths.{SameLengths}
 use Rattle.feed.proofs.PortStays.{calls-lengths}
-use Rattle.batch.proofs.BatchLoop.{Onward, onward-end, newest-refused, newest-sound, can-batch}
+use Rattle.batch.proofs.BatchLoop.{Onward, onward-end, can-batch}
 
--- ---- a bar, where only the newest raw bar is in doubt
-
-pub asked-room : {s : Stand} {m : Stores} → NewestAsked s m → NewestRoom s (m .raw .times) (m .unfinished .counts) (m .unfinished .elements)
-asked-room {s = s} {m = m} a = newest-room s m (a .sizes)
-
-pub feed-asks : {s : Stand} {m : Stores} {t : Bool} → NewestAsked s m → NewestIs s (m .raw .times) (m .unfinished .counts) (m .unfinished .elements) t → t ≡ true → IsSound s m
-feed-asks {s = s} {m = m} {t = t} a x e = newest-sound s m t a (x .answer m (a .sizes) refl refl refl) e
-
-pub feed-refused : {s : Stand} {m : Stores} {t : Bool} (b : Bar) → NewestAsked s m → NewestIs s (m .raw .times) (m .unfinished .counts) (m .unfinished .elements) t → t ≡ false
-    → FeedIs s m b 4 0 0 0 s m
-feed-refused {s = s} {m = m} {t = t} b a x e = newest-refused s m b t a (x .answer m (a .sizes) refl refl refl) e
-
--- ---- the lengths of the stores stay
-
--- along one feed
-pub feed-lengths : {s s' : Stand} {m m' : Stores} {b : Bar} {f made broken shed : ℕ} → FeedIs s m b f made broken shed s' m' → NewestAsked s m → SameLengths m m'
-feed-lengths f a = calls-lengths (call f none) (a .sizes)
-
--- along all of them
+-- no column changes its length
 pub batch-lengths : {s : Stand} {m k : Stores} {bars : RawStore} {n : ℕ} {l : List Bar} {r : BatchAnswer} → CanBatch s m bars n → BatchFed s m l r k → SameLengths m k
-batch-lengths can f = calls-lengths (f .fed .calls) ((begun-asks (can .begun) none) .sizes)
+batch-lengths can f = calls-lengths (f .fed .calls) (from-fresh-sizes (can .begun))
 
--- ---- one more bar
-
-pub next-is : {r r' : BatchAnswer} {k k' : Stores} {b c : Bar} {f made broken shed : ℕ} {t : Stand} → FeedIs (r .stand) k b f made broken shed t k' → b ≡ c
-    → r' ≡ advanced f r made broken shed t → NextIs r k c r' k'
-next-is {r = r} {k = k} {k' = k'} {f = f} {made = made} {broken = broken} {shed = shed} {t = t} x e y =
-    record {
-      failed = f;
-      made = made;
-      broken = broken;
-      shed = shed;
-      stand = t;
-      feed = subst (λ (z : Bar). FeedIs (r .stand) k z f made broken shed t k') e x;
-      next = y;
-    }
+-- the bar is the one at its place
+pub fed-bar : {s t : Stand} {k k' : Stores} {b c : Bar} {f made broken shed : ℕ} → FeedIs s k b f made broken shed t k' → b ≡ c → FeedIs s k c f made broken shed t k'
+fed-bar {s = s} {t = t} {k = k} {k' = k'} {f = f} {made = made} {broken = broken} {shed = shed} x e = subst (λ (z : Bar). FeedIs s k z f made broken shed t k') e x
 
 pub left-over : (f n i : ℕ) → f ≡ 0 → n ≤ i → 0 ≡ leftOf f n i
 unfolding leftOf

@@ -1,3 +1,2 @@
-pub mod BatchFollows
 pub mod BatchLoop
 pub mod BatchSteps

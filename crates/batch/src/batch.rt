@@ -1,17 +1,20 @@
 // A list of bars fed to a fresh analyzer in one call.
 ghost use mathlib.Core.Path.{_≡_};
-ghost use Prim.Native.Nat.{min};
+ghost use Prim.Native.Nat.{_+_, min};
 ghost use lib.ListN.{length};
 ghost use Rattle.stores.specs.Stores.{rawBars};
-ghost use Rattle.stores.specs.Code.StoreRows.{barAt};
+ghost use Rattle.stores.specs.Code.StoreRows.{RoomRaw, barAt};
+ghost use Rattle.check_bi.specs.Code.Windows.{NoFractals};
 ghost use Rattle.strokes.specs.Lent.{held, before, after};
 ghost use Rattle.feed.specs.PortCalls.{FeedIs};
+ghost use Rattle.from_fresh.specs.FromFresh.{FromFresh};
 ghost use Rattle.batch.specs.BatchCalls.{BatchIs, BatchFed};
-ghost use Rattle.batch.specs.Code.BatchSteps.{NewestAsked, CanBatch, CanNext, NextIs, CanAdvance, advanced, leftOf};
+ghost use Rattle.batch.specs.Code.BatchSteps.{CanBatch, CanAdvance, advanced, leftOf};
 ghost use Rattle.stores.specs.Lent.{rawHeld, rawBefore};
 use bars::Bar;
 use feed::FeedAnswer;
-use feed::feed_sound;
+use from_fresh::clear_after;
+use from_fresh::update_from_fresh;
 use strokes::Stand;
 
 // What the batch call answers: the stand after the last bar that was accepted, how many bars were
@@ -24,60 +27,6 @@ pub struct BatchAnswer {
     pub made: u64,
     pub broken: u64,
     pub shed: u64,
-}
-
-// A feed that asks of question 4 only the clause on the newest raw bar.
-fn feed_newest(
-    stand: Stand,
-    rt: &mut [i64],
-    ri: &mut [i32],
-    rp: &mut [[f64; 6]],
-    ut: &mut [i64],
-    ui: &mut [i32],
-    up: &mut [[f64; 6]],
-    uc: &mut [usize],
-    ue: &mut [[i64; 101]],
-    st: &mut [i64],
-    si: &mut [i32],
-    sp: &mut [[f64; 6]],
-    sc: &mut [usize],
-    se: &mut [[i64; 101]],
-    fs: &mut [[i64; 6]],
-    fp: &mut [[f64; 18]],
-    b: Bar,
-) -> FeedAnswer
-    requires { ⌜ NewestAsked stand (held rt ri rp ut ui up uc ue st si sp sc se fs fp) ⌝ }
-    ensures { λ r. ⌜ FeedIs stand (before rt ri rp ut ui up uc ue st si sp sc se fs fp) b (r .failed) (r .made) (r .broken) (r .shed) (r .stand) (after rt ri rp ut ui up uc ue st si sp sc se fs fp) ⌝ }
-{
-    if sound::newest_is_last(stand, rt, uc, ue) {
-        return feed_sound(
-            stand,
-            rt,
-            ri,
-            rp,
-            ut,
-            ui,
-            up,
-            uc,
-            ue,
-            st,
-            si,
-            sp,
-            sc,
-            se,
-            fs,
-            fp,
-            b,
-            0,
-        );
-    }
-    FeedAnswer {
-        stand,
-        failed: 4,
-        made: 0,
-        broken: 0,
-        shed: 0,
-    }
 }
 
 // The answer so far with that of one more bar.
@@ -107,9 +56,9 @@ fn advance(r: BatchAnswer, a: FeedAnswer) -> BatchAnswer
     }
 }
 
-// The next bar.
+// The bar at a place of the columns.
 fn feed_next(
-    r: BatchAnswer,
+    stand: Stand,
     rt: &mut [i64],
     ri: &mut [i32],
     rp: &mut [[f64; 6]],
@@ -128,14 +77,14 @@ fn feed_next(
     bt: &[i64],
     bi: &[i32],
     bp: &[[f64; 6]],
-) -> BatchAnswer
-    requires { ⌜ CanNext r (held rt ri rp ut ui up uc ue st si sp sc se fs fp) (rawHeld bt bi bp) ⌝ }
-    ensures { λ s. ⌜ NextIs r (before rt ri rp ut ui up uc ue st si sp sc se fs fp) (barAt (rawBefore bt bi bp) (r .fed)) s (after rt ri rp ut ui up uc ue st si sp sc se fs fp) ⌝ }
+    at: usize,
+    clear: usize,
+) -> FeedAnswer
+    requires { ⌜ FromFresh stand (held rt ri rp ut ui up uc ue st si sp sc se fs fp) ⌝ ∗ ⌜ RoomRaw (rawHeld bt bi bp) (at + 1) ⌝ ∗ ⌜ NoFractals (now up) clear ⌝ }
+    ensures { λ r. ⌜ FeedIs stand (before rt ri rp ut ui up uc ue st si sp sc se fs fp) (barAt (rawBefore bt bi bp) at) (r .failed) (r .made) (r .broken) (r .shed) (r .stand) (after rt ri rp ut ui up uc ue st si sp sc se fs fp) ⌝ }
 {
-    let at = r.fed;
-    let stand = r.stand;
     let b = stores::read_bar(bt, bi, bp, at);
-    let a = feed_newest(
+    update_from_fresh(
         stand,
         rt,
         ri,
@@ -153,8 +102,8 @@ fn feed_next(
         fs,
         fp,
         b,
-    );
-    advance(r, a)
+        clear,
+    )
 }
 
 // How many of n bars are to be fed yet.
@@ -205,10 +154,13 @@ fn feed_from(
         broken: 0,
         shed: 0,
     };
+    let mut clear = 0;
     let mut left = n;
     while 0 < left {
-        r = feed_next(
-            r,
+        let at = r.fed;
+        let stand = r.stand;
+        let a = feed_next(
+            stand,
             rt,
             ri,
             rp,
@@ -227,7 +179,21 @@ fn feed_from(
             bt,
             bi,
             bp,
+            at,
+            clear,
         );
+        let fed = a.stand;
+        clear = clear_after(
+            stand.strokes,
+            a.made,
+            stand.raw,
+            fed.raw,
+            stand.unfinished,
+            fed.unfinished,
+            up,
+            clear,
+        );
+        r = advance(r, a);
         left = bars_left(r, n);
     }
     r

@@ -12,5 +12,6 @@ pub use scan::Scan;
 pub use scan::candle_at;
 pub use scan::check_bi;
 pub use scan::found_bi;
+pub use scan::next_row;
 pub use scan::no_bi;
 pub use scan::scan_from;

@@ -259,7 +259,7 @@ fn taken_at(ps: &[[f64; 6]], none: bool, k: Mark, i: usize) -> bool
 }
 
 // The first window of the first n rows, from row i on, that a scan takes.
-fn next_row(ps: &[[f64; 6]], none: bool, k: Mark, n: usize, i: usize) -> usize
+pub fn next_row(ps: &[[f64; 6]], none: bool, k: Mark, n: usize, i: usize) -> usize
     requires { ⌜ (n ≤ length (now ps)) × (n < 4294967296) × (i < 4294967296) ⌝ }
     ensures { λ r. ⌜ NextWindow (takenAt (now (ps .entry)) none k) n i r ⌝ }
 {

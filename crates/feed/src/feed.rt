@@ -58,8 +58,8 @@ fn handed_back(r: FeedAnswer) -> Updated
     }
 }
 
-// The feed of a stand that question 4 has passed: questions 5 to 12, then the step. Only for callers that prove it sound: those that have just asked question 4 (update_bar, the C names), and the
-// batch call, whose stands come from a fresh analyzer and which asks the one clause that can fail there. The first `clear` windows of the unfinished bars hold no
+// The feed of a stand that question 4 has passed: questions 5 to 12, then the step. Only for callers that prove it sound: those that have just asked question 4 (update_bar, the C names), and
+// from_fresh, whose stands come from a fresh analyzer and which asks the one clause that can fail there. The first `clear` windows of the unfinished bars hold no
 // fractal: a caller that knows of none says 0.
 pub fn feed_sound(
     stand: Stand,

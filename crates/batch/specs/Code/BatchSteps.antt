@@ -2,34 +2,16 @@
 use Prim.Native.Nat.{ℕ, zero, suc, _+_, _-_, _≤_, _<_}
 use mathlib.Core.Path.{_≡_}
 use lib.ListN.{length}
-use lib.Dec.{T}
-use Rattle.bars.specs.declared.Bar.{Bar}
 use Rattle.stores.specs.Stores.{RawStore, rawBars}
 use Rattle.stores.specs.Code.StoreRows.{RoomRaw}
-use Rattle.machine.specs.Soundness.{newestLast}
 use Rattle.strokes.specs.declared.Stand.{Stand}
-use Rattle.strokes.specs.StateRead.{stateOf, sized}
 use Rattle.strokes.specs.Lent.{Stores}
-use Rattle.sound.specs.FreshStand.{freshOf}
-use Rattle.question4.specs.Question4.{question4}
 use Rattle.batch.specs.declared.batch.BatchAnswer.{BatchAnswer}
-use Rattle.feed.specs.PortCalls.{FeedIs}
+use Rattle.from_fresh.specs.FromFresh.{FromFresh}
 
--- the lengths and counts fit, and of question 4 the clause on the newest raw bar is the only one in doubt
-pub record NewestAsked (s : Stand) (m : Stores) : Type 0 where
-  pub sizes : T (sized s m)
-  pub question : question4 s m ≡ newestLast (stateOf s m)
-
--- a fresh analyzer that was not refused, for these stores
-pub record Begun (s : Stand) (m : Stores) : Type 0 where
-  pub minimum : ℕ
-  pub most : ℕ
-  pub answered : (freshOf minimum most m) .refused ≡ 0
-  pub stand : (freshOf minimum most m) .stand ≡ s
-
--- .. and n bars to feed
+-- a stand and stores that come from a fresh analyzer, and n bars to feed
 pub record CanBatch (s : Stand) (m : Stores) (bars : RawStore) (n : ℕ) : Type 0 where
-  pub begun : Begun s m
+  pub begun : FromFresh s m
   pub room : RoomRaw bars n
   pub count : length (rawBars bars) ≡ n
 
@@ -51,22 +33,3 @@ pub record CanAdvance (r : BatchAnswer) (n a b c : ℕ) : Type 0 where
   pub made : n ≡ 0 → r .made + a ≤ 18446744073709551615
   pub broken : n ≡ 0 → r .broken + b ≤ 18446744073709551615
   pub shed : n ≡ 0 → r .shed + c ≤ 18446744073709551615
-
--- one more bar stands in the columns and can be counted, and no more strokes were counted than bars fed
-pub record CanNext (r : BatchAnswer) (k : Stores) (bars : RawStore) : Type 0 where
-  pub asked : NewestAsked (r .stand) k
-  pub room : RoomRaw bars (r .fed + 1)
-  pub few : r .fed < 18446744073709551615
-  pub few-made : r .made ≤ r .fed
-  pub few-broken : r .broken ≤ r .fed
-  pub few-shed : r .shed ≤ r .fed
-
--- r' is the answer r with that of the feed of the bar b
-pub record NextIs (r : BatchAnswer) (k : Stores) (b : Bar) (r' : BatchAnswer) (k' : Stores) : Type 0 where
-  pub failed : ℕ
-  pub made : ℕ
-  pub broken : ℕ
-  pub shed : ℕ
-  pub stand : Stand
-  pub feed : FeedIs (r .stand) k b failed made broken shed stand k'
-  pub next : r' ≡ advanced failed r made broken shed stand

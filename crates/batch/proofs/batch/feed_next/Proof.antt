@@ -1,118 +1,102 @@
 use Rattle.strokes.specs.Lent.{storesOf}
-use Rattle.stores.specs.Stores.{rawStore}
-use Rattle.batch.proofs.BatchLoop.{can-advance}
-use Rattle.batch.proofs.BatchSteps.{feed-lengths, next-is}
+use Rattle.from_fresh.proofs.FromFreshLaws.{step-lengths}
+use Rattle.batch.proofs.BatchSteps.{fed-bar}
 use borrow.Author.Needs.{needs}
 use Rattle.batch.proofs.batch.feed_next.Statement.{statement}
 use Rattle.batch.proofs.batch.feed_next.Tie as tie
 
 -- ---- places in the code
 
-abbrev start : tie.After-stand → tie.Start
+abbrev start : tie.After-read-bar → tie.Start
 start c = c .before .before .before
 
-abbrev start-from-read-bar : tie.After-read-bar → tie.Start
-start-from-read-bar c = start (c .before)
+-- the bar is read, seen from the call of update_from_fresh, and from the end
+abbrev read : tie.After-update-from-fresh-arg15 → tie.After-read-bar
+read c = c .before .before .before .before .before .before .before .before .before .before .before .before .before .before .before
 
-abbrev after-read-bar : tie.After-feed-newest-arg15 → tie.After-read-bar
-after-read-bar c = c .before .before .before .before .before .before .before .before .before .before .before .before .before .before .before
+abbrev fed : tie.After-fp → tie.After-update-from-fresh
+fed c = c .before .before .before .before .before .before .before .before .before .before .before .before .before .before .before .before .before
 
-abbrev after-read-bar-from-feed-newest : tie.After-feed-newest → tie.After-read-bar
-after-read-bar-from-feed-newest c = after-read-bar (c .before)
-
-abbrev after-feed-newest : tie.After-fp → tie.After-feed-newest
-after-feed-newest c = c .before .before .before .before .before .before .before .before .before .before .before .before .before .before .before .before .before
-
-abbrev after-feed-newest-from-advance : tie.After-advance → tie.After-feed-newest
-after-feed-newest-from-advance c = after-feed-newest (c .before)
-
-abbrev start-seen : tie.After-fp → tie.Start
-start-seen c = start-from-read-bar (after-read-bar-from-feed-newest (after-feed-newest c))
-
-abbrev start-seen-2 : tie.After-advance → tie.Start
-start-seen-2 c = start-from-read-bar (after-read-bar-from-feed-newest (after-feed-newest-from-advance c))
+abbrev read-fed : tie.After-fp → tie.After-read-bar
+read-fed c = read (fed c .before)
 
 -- ---- what is needed
 
 read-bar-requires : tie.Need-read-bar-requires
-read-bar-requires c κs = (start c) .pre .room
+read-bar-requires c κs = c .before .before .pre .1 .0
 
-feed-newest-requires : tie.Need-feed-newest-requires
-feed-newest-requires c κs = (start-from-read-bar (after-read-bar c)) .pre .asked
-
-advance-requires : tie.Need-advance-requires
-advance-requires c κs = let x = (start-seen c) .args in can-advance (x .r) _ _ (rawStore (x .bt .now) (x .bi .now) (x .bp .now)) _ _ _ _ _ _ ((start-seen c) .pre) ((after-feed-newest c) .feed-newest .ensures)
+update-from-fresh-requires : tie.Need-update-from-fresh-requires
+update-from-fresh-requires c κs = (start (read c) .pre .0, start (read c) .pre .1 .1)
 
 same-length : tie.Need-same-length
 unfolding storesOf
-same-length c = (feed-lengths ((after-feed-newest-from-advance c) .feed-newest .ensures) ((start-seen-2 c) .pre .asked)) .rt
+same-length c = (step-lengths (start (read-fed c) .pre .0) (fed c .update-from-fresh .ensures .0 .0)) .rt
 
 same-length-2 : tie.Need-same-length-2
 unfolding storesOf
-same-length-2 c = (feed-lengths ((after-feed-newest-from-advance c) .feed-newest .ensures) ((start-seen-2 c) .pre .asked)) .ri
+same-length-2 c = (step-lengths (start (read-fed c) .pre .0) (fed c .update-from-fresh .ensures .0 .0)) .ri
 
 same-length-3 : tie.Need-same-length-3
 unfolding storesOf
-same-length-3 c = (feed-lengths ((after-feed-newest-from-advance c) .feed-newest .ensures) ((start-seen-2 c) .pre .asked)) .rp
+same-length-3 c = (step-lengths (start (read-fed c) .pre .0) (fed c .update-from-fresh .ensures .0 .0)) .rp
 
 same-length-4 : tie.Need-same-length-4
 unfolding storesOf
-same-length-4 c = (feed-lengths ((after-feed-newest-from-advance c) .feed-newest .ensures) ((start-seen-2 c) .pre .asked)) .ut
+same-length-4 c = (step-lengths (start (read-fed c) .pre .0) (fed c .update-from-fresh .ensures .0 .0)) .ut
 
 same-length-5 : tie.Need-same-length-5
 unfolding storesOf
-same-length-5 c = (feed-lengths ((after-feed-newest-from-advance c) .feed-newest .ensures) ((start-seen-2 c) .pre .asked)) .ui
+same-length-5 c = (step-lengths (start (read-fed c) .pre .0) (fed c .update-from-fresh .ensures .0 .0)) .ui
 
 same-length-6 : tie.Need-same-length-6
 unfolding storesOf
-same-length-6 c = (feed-lengths ((after-feed-newest-from-advance c) .feed-newest .ensures) ((start-seen-2 c) .pre .asked)) .up
+same-length-6 c = (step-lengths (start (read-fed c) .pre .0) (fed c .update-from-fresh .ensures .0 .0)) .up
 
 same-length-7 : tie.Need-same-length-7
 unfolding storesOf
-same-length-7 c = (feed-lengths ((after-feed-newest-from-advance c) .feed-newest .ensures) ((start-seen-2 c) .pre .asked)) .uc
+same-length-7 c = (step-lengths (start (read-fed c) .pre .0) (fed c .update-from-fresh .ensures .0 .0)) .uc
 
 same-length-8 : tie.Need-same-length-8
 unfolding storesOf
-same-length-8 c = (feed-lengths ((after-feed-newest-from-advance c) .feed-newest .ensures) ((start-seen-2 c) .pre .asked)) .ue
+same-length-8 c = (step-lengths (start (read-fed c) .pre .0) (fed c .update-from-fresh .ensures .0 .0)) .ue
 
 same-length-9 : tie.Need-same-length-9
 unfolding storesOf
-same-length-9 c = (feed-lengths ((after-feed-newest-from-advance c) .feed-newest .ensures) ((start-seen-2 c) .pre .asked)) .st
+same-length-9 c = (step-lengths (start (read-fed c) .pre .0) (fed c .update-from-fresh .ensures .0 .0)) .st
 
 same-length-10 : tie.Need-same-length-10
 unfolding storesOf
-same-length-10 c = (feed-lengths ((after-feed-newest-from-advance c) .feed-newest .ensures) ((start-seen-2 c) .pre .asked)) .si
+same-length-10 c = (step-lengths (start (read-fed c) .pre .0) (fed c .update-from-fresh .ensures .0 .0)) .si
 
 same-length-11 : tie.Need-same-length-11
 unfolding storesOf
-same-length-11 c = (feed-lengths ((after-feed-newest-from-advance c) .feed-newest .ensures) ((start-seen-2 c) .pre .asked)) .sp
+same-length-11 c = (step-lengths (start (read-fed c) .pre .0) (fed c .update-from-fresh .ensures .0 .0)) .sp
 
 same-length-12 : tie.Need-same-length-12
 unfolding storesOf
-same-length-12 c = (feed-lengths ((after-feed-newest-from-advance c) .feed-newest .ensures) ((start-seen-2 c) .pre .asked)) .sc
+same-length-12 c = (step-lengths (start (read-fed c) .pre .0) (fed c .update-from-fresh .ensures .0 .0)) .sc
 
 same-length-13 : tie.Need-same-length-13
 unfolding storesOf
-same-length-13 c = (feed-lengths ((after-feed-newest-from-advance c) .feed-newest .ensures) ((start-seen-2 c) .pre .asked)) .se
+same-length-13 c = (step-lengths (start (read-fed c) .pre .0) (fed c .update-from-fresh .ensures .0 .0)) .se
 
 same-length-14 : tie.Need-same-length-14
 unfolding storesOf
-same-length-14 c = (feed-lengths ((after-feed-newest-from-advance c) .feed-newest .ensures) ((start-seen-2 c) .pre .asked)) .fs
+same-length-14 c = (step-lengths (start (read-fed c) .pre .0) (fed c .update-from-fresh .ensures .0 .0)) .fs
 
 same-length-15 : tie.Need-same-length-15
 unfolding storesOf
-same-length-15 c = (feed-lengths ((after-feed-newest-from-advance c) .feed-newest .ensures) ((start-seen-2 c) .pre .asked)) .fp
+same-length-15 c = (step-lengths (start (read-fed c) .pre .0) (fed c .update-from-fresh .ensures .0 .0)) .fp
 
 returns : tie.Need-returns
-returns c = next-is ((after-feed-newest-from-advance c) .feed-newest .ensures) ((after-read-bar-from-feed-newest (after-feed-newest-from-advance c)) .read-bar .ensures) (c .advance .ensures)
+returns c = fed-bar (fed c .update-from-fresh .ensures .0 .0) (read-fed c .read-bar .ensures)
 
 pub feed-next-spec : {M : Type 1} → statement M
 feed-next-spec =
     tie.close
     (tie.spec
     read-bar-requires
-    feed-newest-requires
-    advance-requires
+    update-from-fresh-requires
     same-length
     same-length-2
     same-length-3

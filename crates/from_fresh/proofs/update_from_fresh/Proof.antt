@@ -1,9 +1,8 @@
 use Rattle.strokes.specs.Lent.{storesOf}
-use Rattle.check_bi.proofs.ScanWindows.{clear-none}
-use Rattle.batch.proofs.BatchSteps.{asked-room, feed-asks, feed-refused, feed-lengths}
+use Rattle.from_fresh.proofs.FromFreshLaws.{newest-can, newest-yes, newest-no, step-lengths, step-is}
 use borrow.Author.Needs.{needs}
-use Rattle.batch.proofs.batch.feed_newest.Statement.{statement}
-use Rattle.batch.proofs.batch.feed_newest.Tie as tie
+use Rattle.from_fresh.proofs.update_from_fresh.Statement.{statement}
+use Rattle.from_fresh.proofs.update_from_fresh.Tie as tie
 
 -- ---- places in the code
 
@@ -38,74 +37,76 @@ start-seen-2 c = start-from-newest-is-last (after-newest-is-last (then1-from-fee
 
 newest-is-last-requires : tie.Need-newest-is-last-requires
 unfolding storesOf
-newest-is-last-requires c κs = asked-room ((start c) .pre)
+newest-is-last-requires c κs = newest-can ((start c) .pre .0)
 
 feed-sound-requires : tie.Need-feed-sound-requires
 unfolding storesOf
-feed-sound-requires c κs = (feed-asks ((start-from-newest-is-last (after-newest-is-last (then1 c))) .pre) ((after-newest-is-last (then1 c)) .newest-is-last .ensures) ((then1 c) .if1 .taken), clear-none _)
+feed-sound-requires c κs =
+    let s = start-from-newest-is-last (after-newest-is-last (then1 c)) in
+    (newest-yes (s .pre .0) ((after-newest-is-last (then1 c)) .newest-is-last .ensures) ((then1 c) .if1 .taken), s .pre .1)
 
 same-length : tie.Need-same-length
 unfolding storesOf
-same-length c = (feed-lengths ((after-feed-sound c) .feed-sound .ensures) ((start-seen-2 c) .pre)) .rt
+same-length c = (step-lengths ((start-seen-2 c) .pre .0) ((after-feed-sound c) .feed-sound .ensures)) .rt
 
 same-length-2 : tie.Need-same-length-2
 unfolding storesOf
-same-length-2 c = (feed-lengths ((after-feed-sound c) .feed-sound .ensures) ((start-seen-2 c) .pre)) .ri
+same-length-2 c = (step-lengths ((start-seen-2 c) .pre .0) ((after-feed-sound c) .feed-sound .ensures)) .ri
 
 same-length-3 : tie.Need-same-length-3
 unfolding storesOf
-same-length-3 c = (feed-lengths ((after-feed-sound c) .feed-sound .ensures) ((start-seen-2 c) .pre)) .rp
+same-length-3 c = (step-lengths ((start-seen-2 c) .pre .0) ((after-feed-sound c) .feed-sound .ensures)) .rp
 
 same-length-4 : tie.Need-same-length-4
 unfolding storesOf
-same-length-4 c = (feed-lengths ((after-feed-sound c) .feed-sound .ensures) ((start-seen-2 c) .pre)) .ut
+same-length-4 c = (step-lengths ((start-seen-2 c) .pre .0) ((after-feed-sound c) .feed-sound .ensures)) .ut
 
 same-length-5 : tie.Need-same-length-5
 unfolding storesOf
-same-length-5 c = (feed-lengths ((after-feed-sound c) .feed-sound .ensures) ((start-seen-2 c) .pre)) .ui
+same-length-5 c = (step-lengths ((start-seen-2 c) .pre .0) ((after-feed-sound c) .feed-sound .ensures)) .ui
 
 same-length-6 : tie.Need-same-length-6
 unfolding storesOf
-same-length-6 c = (feed-lengths ((after-feed-sound c) .feed-sound .ensures) ((start-seen-2 c) .pre)) .up
+same-length-6 c = (step-lengths ((start-seen-2 c) .pre .0) ((after-feed-sound c) .feed-sound .ensures)) .up
 
 same-length-7 : tie.Need-same-length-7
 unfolding storesOf
-same-length-7 c = (feed-lengths ((after-feed-sound c) .feed-sound .ensures) ((start-seen-2 c) .pre)) .uc
+same-length-7 c = (step-lengths ((start-seen-2 c) .pre .0) ((after-feed-sound c) .feed-sound .ensures)) .uc
 
 same-length-8 : tie.Need-same-length-8
 unfolding storesOf
-same-length-8 c = (feed-lengths ((after-feed-sound c) .feed-sound .ensures) ((start-seen-2 c) .pre)) .ue
+same-length-8 c = (step-lengths ((start-seen-2 c) .pre .0) ((after-feed-sound c) .feed-sound .ensures)) .ue
 
 same-length-9 : tie.Need-same-length-9
 unfolding storesOf
-same-length-9 c = (feed-lengths ((after-feed-sound c) .feed-sound .ensures) ((start-seen-2 c) .pre)) .st
+same-length-9 c = (step-lengths ((start-seen-2 c) .pre .0) ((after-feed-sound c) .feed-sound .ensures)) .st
 
 same-length-10 : tie.Need-same-length-10
 unfolding storesOf
-same-length-10 c = (feed-lengths ((after-feed-sound c) .feed-sound .ensures) ((start-seen-2 c) .pre)) .si
+same-length-10 c = (step-lengths ((start-seen-2 c) .pre .0) ((after-feed-sound c) .feed-sound .ensures)) .si
 
 same-length-11 : tie.Need-same-length-11
 unfolding storesOf
-same-length-11 c = (feed-lengths ((after-feed-sound c) .feed-sound .ensures) ((start-seen-2 c) .pre)) .sp
+same-length-11 c = (step-lengths ((start-seen-2 c) .pre .0) ((after-feed-sound c) .feed-sound .ensures)) .sp
 
 same-length-12 : tie.Need-same-length-12
 unfolding storesOf
-same-length-12 c = (feed-lengths ((after-feed-sound c) .feed-sound .ensures) ((start-seen-2 c) .pre)) .sc
+same-length-12 c = (step-lengths ((start-seen-2 c) .pre .0) ((after-feed-sound c) .feed-sound .ensures)) .sc
 
 same-length-13 : tie.Need-same-length-13
 unfolding storesOf
-same-length-13 c = (feed-lengths ((after-feed-sound c) .feed-sound .ensures) ((start-seen-2 c) .pre)) .se
+same-length-13 c = (step-lengths ((start-seen-2 c) .pre .0) ((after-feed-sound c) .feed-sound .ensures)) .se
 
 same-length-14 : tie.Need-same-length-14
 unfolding storesOf
-same-length-14 c = (feed-lengths ((after-feed-sound c) .feed-sound .ensures) ((start-seen-2 c) .pre)) .fs
+same-length-14 c = (step-lengths ((start-seen-2 c) .pre .0) ((after-feed-sound c) .feed-sound .ensures)) .fs
 
 same-length-15 : tie.Need-same-length-15
 unfolding storesOf
-same-length-15 c = (feed-lengths ((after-feed-sound c) .feed-sound .ensures) ((start-seen-2 c) .pre)) .fp
+same-length-15 c = (step-lengths ((start-seen-2 c) .pre .0) ((after-feed-sound c) .feed-sound .ensures)) .fp
 
 returns : tie.Need-returns
-returns c = (after-feed-sound c) .feed-sound .ensures
+returns c = step-is ((start-seen-2 c) .pre .0) ((after-feed-sound c) .feed-sound .ensures)
 
 same-length-16 : tie.Need-same-length-16
 same-length-16 c = search needs
@@ -118,10 +119,10 @@ same-length-18 c = search needs
 
 returns-2 : tie.Need-returns-2
 unfolding storesOf
-returns-2 c = feed-refused ((start-seen c) .args .b) ((start-seen c) .pre) (c .before .newest-is-last .ensures) (c .if1 .left)
+returns-2 c = step-is ((start-seen c) .pre .0) (newest-no ((start-seen c) .pre .0) ((start-seen c) .args .b) (c .before .newest-is-last .ensures) (c .if1 .left))
 
-pub feed-newest-spec : {M : Type 1} → statement M
-feed-newest-spec =
+pub update-from-fresh-spec : {M : Type 1} → statement M
+update-from-fresh-spec =
     tie.close
     (tie.spec
     newest-is-last-requires

@@ -1,35 +1,28 @@
--- The batch call asks of question 4 only the clause on the newest raw bar: of what is reached from a fresh analyzer the other clauses hold. Laws on lists of
--- calls that grow at the end. Assumes nothing.
+-- A list of feed calls with one more at its end. Assumes nothing.
 use Prim.Native.Nat.{ℕ, zero, suc}
 use mathlib.Core.Path.{_≡_, refl, ap, sym, _∙_, subst}
 use mathlib.Core.List.{List, [], _∷_, _++_}
 use Rattle.bars.specs.declared.Bar.{Bar}
 use Rattle.machine.specs.Feed.{Events}
-use Rattle.machine.specs.Calls.{calls}
 use Rattle.strokes.specs.declared.Stand.{Stand}
 use Rattle.strokes.specs.Lent.{Stores}
-use Rattle.feed.specs.PortCalls.{FeedIs, added, PortCalls, none, call, acceptedIf, acceptedOf, FreshCalls}
-use Rattle.batch.specs.BatchCalls.{AllAccepted}
-use Rattle.batch.specs.Code.BatchSteps.{NewestAsked, Begun}
+use Rattle.feed.specs.PortCalls.{FeedIs, added, PortCalls, none, call, acceptedIf, acceptedOf}
 use Rattle.feed.proofs.PortFollows.{added-assoc, added-none, none-added}
-use Rattle.feed.proofs.PortReached.{reached-asks, reached-sizes}
 
--- ---- one more call
-
-abbrev events : ℕ → ℕ → ℕ → Events
+abbrev pub events : ℕ → ℕ → ℕ → Events
 events made broken shed = record { made = made; broken = broken; shed = shed }
 
 -- calls of which the bars l are accepted
-record Taking (s : Stand) (m : Stores) (bs : List Bar) (e : Events) (t : Stand) (k : Stores) (l : List Bar) : Type 0 where
-  calls : PortCalls s m bs e t k
-  taken : acceptedOf calls ≡ l
+pub record Taking (s : Stand) (m : Stores) (bs : List Bar) (e : Events) (t : Stand) (k : Stores) (l : List Bar) : Type 0 where
+  pub calls : PortCalls s m bs e t k
+  pub taken : acceptedOf calls ≡ l
 
 accepted-append : (n : ℕ) (a : Bar) (l r : List Bar) → acceptedIf n a (l ++ r) ≡ acceptedIf n a l ++ r
 unfolding acceptedIf
 accepted-append zero a l r = refl
 accepted-append (suc n) a l r = refl
 
-grown : {s t t' : Stand} {m k k' : Stores} {bs : List Bar} {b : Bar} {e : Events} {failed made broken shed : ℕ}
+pub grown : {s t t' : Stand} {m k k' : Stores} {bs : List Bar} {b : Bar} {e : Events} {failed made broken shed : ℕ}
     → (p : PortCalls s m bs e t k) → FeedIs t k b failed made broken shed t' k'
     → Taking s m (bs ++ b ∷ []) (added e (events made broken shed)) t' k' (acceptedOf p ++ acceptedIf failed b [])
 unfolding acceptedOf
@@ -46,29 +39,3 @@ pub port-snoc : {s t t' : Stand} {m k k' : Stores} {bs : List Bar} {b : Bar} {e 
     → PortCalls s m bs e t k → FeedIs t k b failed made broken shed t' k'
     → PortCalls s m (bs ++ b ∷ []) (added e (events made broken shed)) t' k'
 port-snoc p f = (grown p f) .calls
-
--- one more that is accepted
-pub accepted-snoc : {s t t' : Stand} {m k k' : Stores} {bs : List Bar} {b : Bar} {e : Events} {made broken shed : ℕ}
-    → AllAccepted s m bs e t k → FeedIs t k b 0 made broken shed t' k'
-    → AllAccepted s m (bs ++ b ∷ []) (added e (events made broken shed)) t' k'
-unfolding acceptedIf
-accepted-snoc {b = b} a f =
-    let w = grown (a .calls) f in
-    record { calls = w .calls; taken = w .taken ∙ ap (λ (l : List Bar). l ++ b ∷ []) (a .taken) }
-
--- ---- of what is reached, only the newest raw bar is in doubt
-
-pub begun-asks : {s t : Stand} {m k : Stores} {bs : List Bar} {e : Events} → Begun s m → PortCalls s m bs e t k → NewestAsked t k
-begun-asks {t = t} {m = m} {k = k} {bs = bs} {e = e} b p =
-    let r : FreshCalls =
-    record {
-      minimum = b .minimum;
-      most = b .most;
-      lent = m;
-      bars = bs;
-      sums = e;
-      stand = t;
-      stores = k;
-      calls = subst (λ (z : Stand). PortCalls z m bs e t k) (sym (b .stand)) p;
-    } in
-    record { sizes = reached-sizes r (b .answered); question = reached-asks r (b .answered) }

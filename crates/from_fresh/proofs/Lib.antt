@@ -1,0 +1,4 @@
+pub mod OneMoreCall
+pub mod FromFreshLaws
+pub mod ClearKept
+pub mod ClearNext

@@ -1,0 +1,2 @@
+pub mod FromFresh
+pub mod Code
