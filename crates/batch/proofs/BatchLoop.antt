@@ -3,11 +3,9 @@ use Prim.Native.Nat.{ℕ, zero, suc, _+_, _-_, _≤_, _<_, min}
 use native.Mathlib.Omega.{arith}
 use native.Mathlib.Nat.{zero-min, min-zero, suc-min-suc}
 use mathlib.Core.Path.{_≡_, refl, ap, sym, _∙_, subst}
-use mathlib.Core.Bool.{Bool, true, false}
 use mathlib.Core.List.{List, [], _∷_, _++_}
 use lib.ListN.{length, take, drop, getD}
 use lib.Seq.{take-suc, drop-cons, drop-length}
-use lib.Dec.{T}
 use lib.Ieee.{Float}
 use Rattle.bars.specs.declared.Bar.{Bar}
 use Rattle.stores.specs.Stores.{RawStore, zipWith, barOf, rawBars}
@@ -18,7 +16,7 @@ use Rattle.machine.specs.Calls.{none-yet}
 use Rattle.machine.specs.Reached.{OneEach}
 use Rattle.machine.proofs.ReachedSound.{reached-sound}
 use Rattle.strokes.specs.declared.Stand.{Stand}
-use Rattle.strokes.specs.StateRead.{settingsOf, stateOf, sized}
+use Rattle.strokes.specs.StateRead.{settingsOf, stateOf}
 use Rattle.strokes.specs.Lent.{Stores}
 use Rattle.sound.specs.declared.fresh_stand.FreshAnswer.{FreshAnswer}
 use Rattle.sound.specs.FreshStand.{freshOf}

@@ -1,7 +1,7 @@
 -- What each function of the batch call owes, in the words of its code. Assumes nothing.
 use Prim.Native.Nat.{ℕ, zero, suc, _≤_, min}
 use native.Mathlib.Omega.{arith}
-use mathlib.Core.Path.{_≡_, refl, ap, sym, _∙_, subst}
+use mathlib.Core.Path.{_≡_, ap, _∙_, subst}
 use mathlib.Core.List.{List}
 use lib.ListN.{length}
 use Rattle.bars.specs.declared.Bar.{Bar}
@@ -12,7 +12,7 @@ use Rattle.sound.specs.declared.fresh_stand.FreshAnswer.{FreshAnswer}
 use Rattle.sound.specs.FreshStand.{freshOf}
 use Rattle.batch.specs.declared.batch.BatchAnswer.{BatchAnswer}
 use Rattle.feed.specs.PortCalls.{FeedIs}
-use Rattle.batch.specs.BatchCalls.{BatchFed, BatchIs}
+use Rattle.batch.specs.BatchCalls.{BatchFed}
 use Rattle.batch.specs.Code.BatchSteps.{CanBatch, leftOf}
 use Rattle.from_fresh.proofs.FromFreshLaws.{from-fresh-sizes}
 use Rattle.writing.proofs.SameLengths.{SameLengths}

@@ -1,5 +1,4 @@
 // The step of a feed for callers that prove where their stand came from: a fresh analyzer, by such steps.
-ghost use mathlib.Core.Path.{_≡_};
 ghost use Rattle.check_bi.specs.Code.Windows.{NoFractals};
 ghost use Rattle.strokes.specs.Lent.{held, before, after};
 ghost use Rattle.feed.specs.PortCalls.{FeedIs};

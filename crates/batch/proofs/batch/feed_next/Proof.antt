@@ -1,7 +1,6 @@
 use Rattle.strokes.specs.Lent.{storesOf}
 use Rattle.from_fresh.proofs.FromFreshLaws.{step-lengths}
 use Rattle.batch.proofs.BatchSteps.{fed-bar}
-use borrow.Author.Needs.{needs}
 use Rattle.batch.proofs.batch.feed_next.Statement.{statement}
 use Rattle.batch.proofs.batch.feed_next.Tie as tie
 
