@@ -48,7 +48,7 @@ pub fn clear_after(
     if strokes != 0 {
         return 0;
     }
-    if made == 7 {
+    if made != 0 {
         return 0;
     }
     let known = known_after(raw, raw_after, unfinished, unfinished_after, clear);
