@@ -3,7 +3,7 @@ mod shown;
 mod words;
 
 pub use shown::flag;
-pub use shown::show_bar;
+pub use shown::put_bar;
 pub use shown::space;
 pub use shown::spaced_float;
 pub use words::Float;

@@ -1,32 +1,32 @@
-// What the programs write.
+// What the programs write, put in the buffer `out`.
 use bars::Bar;
-use libc::STDOUT_FILENO;
+use lines::Buffer;
+use lines::Buffered;
 
-pub fn space() {
-    io::write_all(STDOUT_FILENO, b" ");
+pub fn space(out: &mut Buffer, o: Buffered) -> Buffered {
+    lines::put(out, o, b" ")
 }
 
-pub fn flag(yes: bool) {
+pub fn flag(out: &mut Buffer, o: Buffered, yes: bool) -> Buffered {
     if yes {
-        io::write_all(STDOUT_FILENO, b"1");
-    } else {
-        io::write_all(STDOUT_FILENO, b"0");
+        return lines::put(out, o, b"1");
     }
+    lines::put(out, o, b"0")
 }
 
-pub fn spaced_float(x: f64) {
-    space();
-    lines::show(x);
+pub fn spaced_float(out: &mut Buffer, o: Buffered, x: f64) -> Buffered {
+    let o = space(out, o);
+    lines::put_float(out, o, x)
 }
 
-pub fn show_bar(b: Bar) {
-    lines::write_whole(b.time);
-    space();
-    lines::write_small(b.id);
-    spaced_float(b.open);
-    spaced_float(b.close);
-    spaced_float(b.high);
-    spaced_float(b.low);
-    spaced_float(b.vol);
-    spaced_float(b.amount);
+pub fn put_bar(out: &mut Buffer, o: Buffered, b: Bar) -> Buffered {
+    let o = lines::put_whole(out, o, b.time);
+    let o = space(out, o);
+    let o = lines::put_small(out, o, b.id);
+    let o = spaced_float(out, o, b.open);
+    let o = spaced_float(out, o, b.close);
+    let o = spaced_float(out, o, b.high);
+    let o = spaced_float(out, o, b.low);
+    let o = spaced_float(out, o, b.vol);
+    spaced_float(out, o, b.amount)
 }

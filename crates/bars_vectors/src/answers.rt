@@ -2,133 +2,132 @@
 use bar_lines::Read;
 use bar_lines::bar_at;
 use bar_lines::flag;
-use bar_lines::show_bar;
+use bar_lines::put_bar;
 use bar_lines::space;
 use bar_lines::spaced_float;
 use bars::Bar;
 use bars::Gap;
 use bars::GapAnswer;
 use bars::NewBar;
-use libc::STDOUT_FILENO;
+use lines::Buffer;
+use lines::Buffered;
+use lines::put;
 
-pub fn bad() {
-    io::write_all(STDOUT_FILENO, b"bad line\n");
+pub fn bad(out: &mut Buffer, o: Buffered) -> Buffered {
+    put(out, o, b"bad line\n")
 }
 
-fn show_elements(k: NewBar) {
-    io::write_all(STDOUT_FILENO, b" :");
+fn put_elements(out: &mut Buffer, o: Buffered, k: NewBar) -> Buffered {
     let elements = k.elements;
     let count = k.count;
+    let mut now = put(out, o, b" :");
     let mut i: usize = 0;
     while i < 101 {
         if count <= i {
-            return;
+            return now;
         }
-        space();
-        lines::write_whole(elements[i]);
+        now = space(out, now);
+        now = lines::put_whole(out, now, elements[i]);
         i += 1;
     }
+    now
 }
 
-fn remove_include(k1: Bar, k2: Bar, k3: Bar) {
+fn remove_include(out: &mut Buffer, o: Buffered, k1: Bar, k2: Bar, k3: Bar) -> Buffered {
     let r = bars::remove_include(k1.high, bars::new_from_raw(k2), k3);
-    flag(r.merged);
-    space();
+    let o = flag(out, o, r.merged);
+    let o = space(out, o);
     let k = r.bar;
-    show_bar(k.bar);
-    show_elements(k);
-    io::write_all(STDOUT_FILENO, b"\n");
+    let o = put_bar(out, o, k.bar);
+    let o = put_elements(out, o, k);
+    put(out, o, b"\n")
 }
 
-fn ask_remove_include(line: &[u8], at: usize) {
+fn ask_remove_include(out: &mut Buffer, o: Buffered, line: &[u8], at: usize) -> Buffered {
     let Read::At(k1, a) = bar_at(line, at) else {
-        bad();
-        return;
+        return bad(out, o);
     };
     let Read::At(k2, b) = bar_at(line, a) else {
-        bad();
-        return;
+        return bad(out, o);
     };
     let Read::At(k3, c) = bar_at(line, b) else {
-        bad();
-        return;
+        return bad(out, o);
     };
     if c < line.len() {
-        bad();
-        return;
+        return bad(out, o);
     }
-    remove_include(k1, k2, k3);
+    remove_include(out, o, k1, k2, k3)
 }
 
-fn show_edges(low: f64, high: f64, ratio: f64, covered: bool) {
-    spaced_float(low);
-    spaced_float(high);
-    spaced_float(ratio);
-    space();
-    flag(covered);
+fn put_edges(
+    out: &mut Buffer,
+    o: Buffered,
+    low: f64,
+    high: f64,
+    ratio: f64,
+    covered: bool,
+) -> Buffered {
+    let o = spaced_float(out, o, low);
+    let o = spaced_float(out, o, high);
+    let o = spaced_float(out, o, ratio);
+    let o = space(out, o);
+    flag(out, o, covered)
 }
 
-fn show_gap(g: Gap) {
+fn put_gap(out: &mut Buffer, o: Buffered, g: Gap) -> Buffered {
     match g {
-        Gap::NoGap => {
-            io::write_all(STDOUT_FILENO, b"none");
-        }
+        Gap::NoGap => put(out, o, b"none"),
         Gap::Up(low, high, ratio, covered) => {
-            io::write_all(STDOUT_FILENO, b"up");
-            show_edges(low, high, ratio, covered);
+            let o = put(out, o, b"up");
+            put_edges(out, o, low, high, ratio, covered)
         }
         Gap::Down(low, high, ratio, covered) => {
-            io::write_all(STDOUT_FILENO, b"down");
-            show_edges(low, high, ratio, covered);
+            let o = put(out, o, b"down");
+            put_edges(out, o, low, high, ratio, covered)
         }
     }
 }
 
-fn show_answer(a: GapAnswer) {
+fn put_answer(out: &mut Buffer, o: Buffered, a: GapAnswer) -> Buffered {
     match a {
-        GapAnswer::Pair(g) => show_gap(g),
-        GapAnswer::Missing => {
-            io::write_all(STDOUT_FILENO, b"missing");
-        }
+        GapAnswer::Pair(g) => put_gap(out, o, g),
+        GapAnswer::Missing => put(out, o, b"missing"),
     }
 }
 
 // The pairs of the first n rows.
-fn show_gaps(prices: &[[f64; 6]], n: usize) {
+fn put_gaps(out: &mut Buffer, o: Buffered, prices: &[[f64; 6]], n: usize) -> Buffered {
     if n < 2 {
-        io::write_all(STDOUT_FILENO, b"empty\n");
-        return;
+        return put(out, o, b"empty\n");
     }
-    show_answer(bars::gap_among(prices, n, 0));
+    let mut now = put_answer(out, o, bars::gap_among(prices, n, 0));
     let m = n - 1;
     let mut i: usize = 1;
     while i < m {
-        io::write_all(STDOUT_FILENO, b" | ");
-        show_answer(bars::gap_among(prices, n, i));
+        now = put(out, now, b" | ");
+        now = put_answer(out, now, bars::gap_among(prices, n, i));
         i += 1;
     }
-    io::write_all(STDOUT_FILENO, b"\n");
+    put(out, now, b"\n")
 }
 
 // A line of more than 64 bars is not taken.
-fn ask_gaps(line: &[u8], from: usize) {
+fn ask_gaps(out: &mut Buffer, o: Buffered, line: &[u8], from: usize) -> Buffered {
     let mut prices = [[0f64; 6]; 64];
     let mut n: usize = 0;
     let mut at = from;
     while n < 64 {
         if line.len() <= at {
-            show_gaps(&prices, n);
-            return;
+            return put_gaps(out, o, &prices, n);
         }
         let Read::At(b, next) = bar_at(line, at) else {
-            bad();
-            return;
+            return bad(out, o);
         };
         prices[n] = [b.open, b.close, b.high, b.low, b.vol, b.amount];
         n += 1;
         at = next;
     }
-    bad();
+    bad(out, o)
 }
 
 // A bar of this time, 12/9.
@@ -145,8 +144,8 @@ fn bar_12_9(time: i64) -> Bar {
     }
 }
 
-// Behind a bar with high 10, bars 12/9 of times 1 to 102 become one bar: its elements.
-fn deep() {
+// Behind a bar with high 10, bars 12/9 of times 1 to 102 become one bar.
+fn deep_bar() -> NewBar {
     let mut k = bars::new_from_raw(bar_12_9(1));
     let mut i: u8 = 2;
     while i < 103 {
@@ -154,13 +153,18 @@ fn deep() {
         k = r.bar;
         i += 1;
     }
-    io::write_all(STDOUT_FILENO, b"deep");
-    show_elements(k);
-    io::write_all(STDOUT_FILENO, b"\n");
+    k
+}
+
+// Its elements.
+fn deep(out: &mut Buffer, o: Buffered) -> Buffered {
+    let o = put(out, o, b"deep");
+    let o = put_elements(out, o, deep_bar());
+    put(out, o, b"\n")
 }
 
 // The first question that a bar of this price fails.
-fn ask_price(x: f64) {
+fn ask_price(out: &mut Buffer, o: Buffered, x: f64) -> Buffered {
     let b = Bar {
         time: 1,
         id: 0,
@@ -171,38 +175,34 @@ fn ask_price(x: f64) {
         vol: 1.0,
         amount: 1.0,
     };
-    space();
-    io::print_decimal(STDOUT_FILENO, bars::question_of_bar(b));
+    let o = space(out, o);
+    lines::put_decimal(out, o, bars::question_of_bar(b))
 }
 
 // 2^30, and the next float.
-fn price() {
-    io::write_all(STDOUT_FILENO, b"price");
-    ask_price(1073741824.0);
-    ask_price(lines::float_of(4742290407621132289));
-    io::write_all(STDOUT_FILENO, b"\n");
+fn price(out: &mut Buffer, o: Buffered) -> Buffered {
+    let o = put(out, o, b"price");
+    let o = ask_price(out, o, 1073741824.0);
+    let o = ask_price(out, o, lines::float_of(4742290407621132289));
+    put(out, o, b"\n")
 }
 
-// Writes the answer to a line.
-pub fn reply(line: &[u8]) {
+// The answer to a line.
+pub fn reply(out: &mut Buffer, o: Buffered, line: &[u8]) -> Buffered {
     let end = lines::word_end(line, 0);
     let word = &line[..end];
     let at = end + 1;
     if lines::is_word(word, b"remove_include") {
-        ask_remove_include(line, at);
-        return;
+        return ask_remove_include(out, o, line, at);
     }
     if lines::is_word(word, b"gaps") {
-        ask_gaps(line, at);
-        return;
+        return ask_gaps(out, o, line, at);
     }
     if lines::is_word(word, b"deep") {
-        deep();
-        return;
+        return deep(out, o);
     }
     if lines::is_word(word, b"price") {
-        price();
-        return;
+        return price(out, o);
     }
-    bad();
+    bad(out, o)
 }

@@ -8,19 +8,27 @@
 // The questions were made by the oracle's driver, and the answers are those of the Rust.
 mod answers;
 
+use lines::Buffer;
+use lines::Buffered;
 use lines::Cursor;
+
+fn answered(out: &mut Buffer, text: &[u8], cursor: Cursor) -> Buffered {
+    let n = lines::asked(text, cursor);
+    let o = lines::nothing_buffered();
+    if n == 0 {
+        return o;
+    }
+    if cursor.long {
+        return answers::bad(out, o);
+    }
+    answers::reply(out, o, &text[..n])
+}
 
 // Writes the answer to the line.
 fn answer(text: &[u8], cursor: Cursor) {
-    let n = lines::asked(text, cursor);
-    if n == 0 {
-        return;
-    }
-    if cursor.long {
-        answers::bad();
-        return;
-    }
-    answers::reply(&text[..n]);
+    let mut out = io::large_buffer();
+    let o = answered(&mut out, text, cursor);
+    lines::flush(&out, o);
 }
 
 fn main() {

@@ -1,7 +1,12 @@
 // Floats and their bits as text.
 ghost use mathlib.Core.Path.{_≡_};
 ghost use lib.Ieee.{binary64, ofBits};
-use libc::STDOUT_FILENO;
+use crate::output::Buffer;
+use crate::output::Buffered;
+use crate::output::flush;
+use crate::output::nothing_buffered;
+use crate::output::put;
+use crate::output::put_hex;
 
 pub enum Bits {
     Of(u64),
@@ -70,11 +75,17 @@ pub fn float_of(bits: u64) -> f64
     f64::from_bits(bits)
 }
 
-// Writes the digits of its bits, and `nan` of every NaN.
-pub fn show(x: f64) {
+// Puts the digits of its bits, and `nan` of every NaN.
+pub fn put_float(out: &mut Buffer, o: Buffered, x: f64) -> Buffered {
     if x != x {
-        io::write_all(STDOUT_FILENO, b"nan");
-        return;
+        return put(out, o, b"nan");
     }
-    io::print_hex(STDOUT_FILENO, f64::to_bits(x), 16);
+    put_hex(out, o, f64::to_bits(x))
+}
+
+// Writes them at once.
+pub fn show(x: f64) {
+    let mut out = io::large_buffer();
+    let o = put_float(&mut out, nothing_buffered(), x);
+    flush(&out, o);
 }

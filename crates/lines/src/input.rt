@@ -4,7 +4,7 @@ ghost use lib.ListN.{length};
 use libc::STDIN_FILENO;
 
 // Where the reading stands: the next byte and the number of bytes read into the buffer; of the line, how many bytes are kept and whether
-// it had more; whether the line goes on, and whether the input may.
+// it had more; whether the line goes on, whether the input may, and whether a read failed.
 pub struct Cursor {
     pub at: usize,
     pub filled: usize,
@@ -12,6 +12,7 @@ pub struct Cursor {
     pub long: bool,
     pub going: bool,
     pub open: bool,
+    pub failed: bool,
 }
 
 pub fn first_line() -> Cursor {
@@ -22,6 +23,7 @@ pub fn first_line() -> Cursor {
         long: false,
         going: false,
         open: true,
+        failed: false,
     }
 }
 
@@ -52,14 +54,23 @@ fn step(bytes: &mut [u8], text: &mut [u8], c: Cursor) -> Cursor {
             return take(text, c, b, at + 1);
         }
     }
-    let n = io::read_full(STDIN_FILENO, bytes);
+    let got = libc::read(STDIN_FILENO, bytes);
+    refilled(c, got, io::count(got, bytes))
+}
+
+// After a read that answered `got` and gave n bytes: below 0 it failed, and at 0 the input has ended. What a failed read cuts off is no line.
+fn refilled(c: Cursor, got: isize, n: usize) -> Cursor {
     let mut next = c;
     next.at = 0;
     next.filled = n;
-    if n == 0 {
-        next.going = false;
-        next.open = false;
+    if n > 0 {
         return next;
+    }
+    next.going = false;
+    next.open = false;
+    if got < 0 {
+        next.failed = true;
+        next.len = 0;
     }
     next
 }

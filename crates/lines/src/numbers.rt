@@ -1,7 +1,12 @@
 // Whole numbers as text.
 ghost use Prim.Native.Nat.{_≤_};
+use crate::output::Buffer;
+use crate::output::Buffered;
+use crate::output::flush;
+use crate::output::nothing_buffered;
+use crate::output::put;
+use crate::output::put_decimal;
 use crate::words::word_end;
-use libc::STDOUT_FILENO;
 
 pub enum Whole {
     Of(i64),
@@ -81,19 +86,31 @@ pub fn whole_at(line: &[u8], at: usize) -> WholeAt {
     WholeAt::Is(n, end)
 }
 
-// Writes a whole number. The one with no counterpart above zero is written as it is.
-pub fn write_whole(t: i64) {
+// The number without its sign. The one with no counterpart above zero is that of 64 bits as it is.
+fn unsigned(t: i64) -> u64 {
     if t < 0 {
         if t < -9223372036854775807 {
-            io::write_all(STDOUT_FILENO, b"-9223372036854775808");
-            return;
+            return 9223372036854775808;
         }
-        io::write_all(STDOUT_FILENO, b"-");
         let m = -t;
-        io::print_decimal(STDOUT_FILENO, m as u64);
-        return;
+        return m as u64;
     }
-    io::print_decimal(STDOUT_FILENO, t as u64);
+    t as u64
+}
+
+pub fn put_whole(out: &mut Buffer, o: Buffered, t: i64) -> Buffered {
+    if t < 0 {
+        let signed = put(out, o, b"-");
+        return put_decimal(out, signed, unsigned(t));
+    }
+    put_decimal(out, o, unsigned(t))
+}
+
+// Writes it at once.
+pub fn write_whole(t: i64) {
+    let mut out = io::large_buffer();
+    let o = put_whole(&mut out, nothing_buffered(), t);
+    flush(&out, o);
 }
 
 pub enum Small {
@@ -112,6 +129,10 @@ pub fn small_of(n: i64) -> Small {
     Small::Of(n as i32)
 }
 
-pub fn write_small(n: i32) {
-    write_whole(n as i64);
+fn widened(n: i32) -> i64 {
+    n as i64
+}
+
+pub fn put_small(out: &mut Buffer, o: Buffered, n: i32) -> Buffered {
+    put_whole(out, o, widened(n))
 }

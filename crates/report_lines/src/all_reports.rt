@@ -3,68 +3,82 @@ use crate::text;
 use bar_lines::flag;
 use bar_lines::space;
 use bar_lines::spaced_float;
-use libc::STDOUT_FILENO;
+use lines::Buffer;
+use lines::Buffered;
+use lines::put;
 use reports::FractalAnswers;
 use reports::Measures;
 use reports::Strength;
 use strokes::Stand;
 
-fn measure_line(m: Measures) {
-    io::write_all(STDOUT_FILENO, b"measure");
-    spaced_float(m.high);
-    spaced_float(m.low);
-    spaced_float(m.power_price);
-    spaced_float(m.power_volume);
-    spaced_float(m.snr);
-    spaced_float(m.power_snr);
-    spaced_float(m.change);
-    spaced_float(m.slope);
-    spaced_float(m.acceleration);
-    text::number(m.length);
+fn measure_line(out: &mut Buffer, o: Buffered, m: Measures) -> Buffered {
+    let o = put(out, o, b"measure");
+    let o = spaced_float(out, o, m.high);
+    let o = spaced_float(out, o, m.low);
+    let o = spaced_float(out, o, m.power_price);
+    let o = spaced_float(out, o, m.power_volume);
+    let o = spaced_float(out, o, m.snr);
+    let o = spaced_float(out, o, m.power_snr);
+    let o = spaced_float(out, o, m.change);
+    let o = spaced_float(out, o, m.slope);
+    let o = spaced_float(out, o, m.acceleration);
+    text::number(out, o, m.length)
 }
 
-fn times_line(ts: &[i64], n: usize) {
-    io::write_all(STDOUT_FILENO, b"inner");
+fn times_line(out: &mut Buffer, o: Buffered, ts: &[i64], n: usize) -> Buffered {
+    let mut now = put(out, o, b"inner");
     let mut i: usize = 0;
     while i < n {
         if ts.len() <= i {
-            return;
+            return now;
         }
-        text::time(ts[i]);
+        now = text::time(out, now, ts[i]);
         i += 1;
     }
+    now
 }
 
-fn fake_lines(ot: &[[i64; 2]], op: &[[f64; 3]], od: &[u8], n: usize) {
+fn fake_lines(
+    out: &mut Buffer,
+    o: Buffered,
+    ot: &[[i64; 2]],
+    op: &[[f64; 3]],
+    od: &[u8],
+    n: usize,
+) -> Buffered {
+    let mut now = o;
     let mut i: usize = 0;
     while i < n {
         if ot.len() <= i {
-            return;
+            return now;
         }
         if op.len() <= i {
-            return;
+            return now;
         }
         if od.len() <= i {
-            return;
+            return now;
         }
-        fake_line(ot[i], op[i], od[i]);
+        now = fake_line(out, now, ot[i], op[i], od[i]);
         i += 1;
     }
+    now
 }
 
-fn fake_line(t: [i64; 2], p: [f64; 3], d: u8) {
-    io::write_all(STDOUT_FILENO, b"fake");
-    text::direction_number(d as usize);
-    text::time(t[0]);
-    text::time(t[1]);
-    spaced_float(p[0]);
-    spaced_float(p[1]);
-    spaced_float(p[2]);
-    text::line_end();
+fn fake_line(out: &mut Buffer, o: Buffered, t: [i64; 2], p: [f64; 3], d: u8) -> Buffered {
+    let o = put(out, o, b"fake");
+    let o = text::direction_number(out, o, d as usize);
+    let o = text::time(out, o, t[0]);
+    let o = text::time(out, o, t[1]);
+    let o = spaced_float(out, o, p[0]);
+    let o = spaced_float(out, o, p[1]);
+    let o = spaced_float(out, o, p[2]);
+    text::line_end(out, o)
 }
 
 // The measures of the stroke at a place, and the number and the times of its inner raw bars.
 fn measure(
+    out: &mut Buffer,
+    o: Buffered,
     stand: Stand,
     rt: &[i64],
     ri: &[i32],
@@ -82,7 +96,7 @@ fn measure(
     fs: &[[i64; 6]],
     fp: &[[f64; 18]],
     place: usize,
-) {
+) -> Buffered {
     let mut ot = [0i64; 4096];
     let mut oi = [0i32; 4096];
     let mut op = [[0f64; 6]; 4096];
@@ -129,14 +143,16 @@ fn measure(
         &mut op,
     );
     let n = b.count;
-    measure_line(m);
-    text::number(n);
-    text::line_end();
-    times_line(&ot, n);
-    text::line_end();
+    let o = measure_line(out, o, m);
+    let o = text::number(out, o, n);
+    let o = text::line_end(out, o);
+    let o = times_line(out, o, &ot, n);
+    text::line_end(out, o)
 }
 
 fn fakes(
+    out: &mut Buffer,
+    o: Buffered,
     stand: Stand,
     rt: &[i64],
     ri: &[i32],
@@ -154,7 +170,7 @@ fn fakes(
     fs: &[[i64; 6]],
     fp: &[[f64; 18]],
     place: usize,
-) {
+) -> Buffered {
     let mut ot = [[0i64; 2]; 1024];
     let mut op = [[0f64; 3]; 1024];
     let mut od = [0u8; 1024];
@@ -181,11 +197,13 @@ fn fakes(
         &mut od,
     );
     let n = r.count;
-    fake_lines(&ot, &op, &od, n);
+    fake_lines(out, o, &ot, &op, &od, n)
 }
 
 // Each kept stroke: its measures, then its fake strokes.
 fn stroke_reports(
+    out: &mut Buffer,
+    o: Buffered,
     stand: Stand,
     rt: &[i64],
     ri: &[i32],
@@ -202,14 +220,17 @@ fn stroke_reports(
     se: &[[i64; 101]],
     fs: &[[i64; 6]],
     fp: &[[f64; 18]],
-) {
+) -> Buffered {
     let n = stand.strokes;
+    let mut now = o;
     let mut i: usize = 0;
     while i < 65 {
         if n <= i {
-            return;
+            return now;
         }
-        measure(
+        now = measure(
+            out,
+            now,
             stand,
             rt,
             ri,
@@ -228,7 +249,9 @@ fn stroke_reports(
             fp,
             i,
         );
-        fakes(
+        now = fakes(
+            out,
+            now,
             stand,
             rt,
             ri,
@@ -249,59 +272,98 @@ fn stroke_reports(
         );
         i += 1;
     }
+    now
 }
 
 // The strokes of a zone, from place `at` on, n of them.
-fn zone_strokes(name: &[u8], bt: &[[i64; 2]], bp: &[[f64; 2]], bd: &[u8], at: usize, n: usize) {
+fn zone_strokes(
+    out: &mut Buffer,
+    o: Buffered,
+    name: &[u8],
+    bt: &[[i64; 2]],
+    bp: &[[f64; 2]],
+    bd: &[u8],
+    at: usize,
+    n: usize,
+) -> Buffered {
+    let mut now = o;
     let mut i = at;
     let mut left = n;
     while left > 0 {
         if bt.len() <= i {
-            return;
+            return now;
         }
         if bp.len() <= i {
-            return;
+            return now;
         }
         if bd.len() <= i {
-            return;
+            return now;
         }
-        zone_stroke(name, bt[i], bp[i], bd[i]);
+        now = zone_stroke(out, now, name, bt[i], bp[i], bd[i]);
         i += 1;
         left -= 1;
     }
+    now
 }
 
-fn zone_stroke(name: &[u8], t: [i64; 2], p: [f64; 2], d: u8) {
-    io::write_all(STDOUT_FILENO, name);
-    io::write_all(STDOUT_FILENO, b"zs");
-    text::direction_number(d as usize);
-    spaced_float(p[0]);
-    spaced_float(p[1]);
-    text::time(t[0]);
-    text::time(t[1]);
-    text::line_end();
+fn zone_stroke(
+    out: &mut Buffer,
+    o: Buffered,
+    name: &[u8],
+    t: [i64; 2],
+    p: [f64; 2],
+    d: u8,
+) -> Buffered {
+    let o = put(out, o, name);
+    let o = put(out, o, b"zs");
+    let o = text::direction_number(out, o, d as usize);
+    let o = spaced_float(out, o, p[0]);
+    let o = spaced_float(out, o, p[1]);
+    let o = text::time(out, o, t[0]);
+    let o = text::time(out, o, t[1]);
+    text::line_end(out, o)
 }
 
 // zg, zd, zz, gg, dd; then whether it is valid and how many strokes it has.
-fn zone_line(name: &[u8], t: [i64; 2], p: [f64; 5], n: [usize; 4]) {
-    io::write_all(STDOUT_FILENO, name);
-    io::write_all(STDOUT_FILENO, b"zone");
-    text::time(t[0]);
-    text::time(t[1]);
-    text::direction_number(n[0]);
-    text::direction_number(n[1]);
-    spaced_float(p[0]);
-    spaced_float(p[1]);
-    spaced_float(p[2]);
-    spaced_float(p[3]);
-    spaced_float(p[4]);
-    text::number(n[2]);
-    text::number(n[3]);
-    text::line_end();
+fn zone_line(
+    out: &mut Buffer,
+    o: Buffered,
+    name: &[u8],
+    t: [i64; 2],
+    p: [f64; 5],
+    n: [usize; 4],
+) -> Buffered {
+    let o = put(out, o, name);
+    let o = put(out, o, b"zone");
+    let o = text::time(out, o, t[0]);
+    let o = text::time(out, o, t[1]);
+    let o = text::direction_number(out, o, n[0]);
+    let o = text::direction_number(out, o, n[1]);
+    let o = spaced_float(out, o, p[0]);
+    let o = spaced_float(out, o, p[1]);
+    let o = spaced_float(out, o, p[2]);
+    let o = spaced_float(out, o, p[3]);
+    let o = spaced_float(out, o, p[4]);
+    let o = text::number(out, o, n[2]);
+    let o = text::number(out, o, n[3]);
+    text::line_end(out, o)
+}
+
+// The place behind n strokes from `at` on; where there are fewer than that, the end.
+fn place_behind(at: usize, n: usize, end: usize) -> usize {
+    if end < n {
+        return end;
+    }
+    if end - n < at {
+        return end;
+    }
+    at + n
 }
 
 // At most 64 zones, each with its strokes.
 fn zone_lines(
+    out: &mut Buffer,
+    o: Buffered,
     name: &[u8],
     zt: &[[i64; 2]],
     zp: &[[f64; 5]],
@@ -310,36 +372,34 @@ fn zone_lines(
     bp: &[[f64; 2]],
     bd: &[u8],
     n: usize,
-) {
+) -> Buffered {
+    let mut now = o;
     let mut at: usize = 0;
     let mut i: usize = 0;
     while i < n {
         if zt.len() <= i {
-            return;
+            return now;
         }
         if zp.len() <= i {
-            return;
+            return now;
         }
         if zn.len() <= i {
-            return;
+            return now;
         }
         let row = zn[i];
         let size = row[3];
-        zone_line(name, zt[i], zp[i], row);
-        zone_strokes(name, bt, bp, bd, at, size);
-        if bt.len() < size {
-            return;
-        }
-        if bt.len() - size < at {
-            return;
-        }
-        at += size;
+        now = zone_line(out, now, name, zt[i], zp[i], row);
+        now = zone_strokes(out, now, name, bt, bp, bd, at, size);
+        at = place_behind(at, size, bt.len());
         i += 1;
     }
+    now
 }
 
 // The zones of the first `count` kept strokes.
 fn zones_of(
+    out: &mut Buffer,
+    o: Buffered,
     name: &[u8],
     stand: Stand,
     rt: &[i64],
@@ -358,7 +418,7 @@ fn zones_of(
     fs: &[[i64; 6]],
     fp: &[[f64; 18]],
     count: usize,
-) {
+) -> Buffered {
     let mut zt = [[0i64; 2]; 64];
     let mut zp = [[0f64; 5]; 64];
     let mut zn = [[0usize; 4]; 64];
@@ -391,10 +451,12 @@ fn zones_of(
         &mut bp,
         &mut bd,
     );
-    zone_lines(name, &zt, &zp, &zn, &bt, &bp, &bd, r.zones);
+    zone_lines(out, o, name, &zt, &zp, &zn, &bt, &bp, &bd, r.zones)
 }
 
 fn fx_list(
+    out: &mut Buffer,
+    o: Buffered,
     stand: Stand,
     rt: &[i64],
     ri: &[i32],
@@ -411,7 +473,7 @@ fn fx_list(
     se: &[[i64; 101]],
     fs: &[[i64; 6]],
     fp: &[[f64; 18]],
-) {
+) -> Buffered {
     let mut os = [[0i64; 6]; 3072];
     let mut op = [[0f64; 18]; 3072];
     let r = reports::get_fx_list(
@@ -434,26 +496,36 @@ fn fx_list(
         &mut os,
         &mut op,
     );
-    fx_lines(&os, &op, r.count);
+    fx_lines(out, o, &os, &op, r.count)
 }
 
-fn fx_lines(os: &[[i64; 6]], op: &[[f64; 18]], n: usize) {
+fn fx_lines(
+    out: &mut Buffer,
+    o: Buffered,
+    os: &[[i64; 6]],
+    op: &[[f64; 18]],
+    n: usize,
+) -> Buffered {
+    let mut now = o;
     let mut i: usize = 0;
     while i < n {
         if os.len() <= i {
-            return;
+            return now;
         }
         if op.len() <= i {
-            return;
+            return now;
         }
-        io::write_all(STDOUT_FILENO, b"fxs");
-        text::fractal_row(os[i], op[i]);
+        now = put(out, now, b"fxs");
+        now = text::fractal_row(out, now, os[i], op[i]);
         i += 1;
     }
+    now
 }
 
 // is_bis_up and is_bis_down of one run, where it exists.
 fn run_line(
+    out: &mut Buffer,
+    o: Buffered,
     stand: Stand,
     rt: &[i64],
     ri: &[i32],
@@ -472,7 +544,7 @@ fn run_line(
     fp: &[[f64; 18]],
     first: usize,
     count: usize,
-) {
+) -> Buffered {
     let rising = zones::is_bis_up(
         stand,
         rt,
@@ -494,7 +566,7 @@ fn run_line(
         count,
     );
     if rising.failed > 0 {
-        return;
+        return o;
     }
     let falling = zones::is_bis_down(
         stand,
@@ -516,18 +588,20 @@ fn run_line(
         first,
         count,
     );
-    io::write_all(STDOUT_FILENO, b"bis");
-    text::number(first);
-    text::number(count);
-    space();
-    flag(rising.answer);
-    space();
-    flag(falling.answer);
-    text::line_end();
+    let o = put(out, o, b"bis");
+    let o = text::number(out, o, first);
+    let o = text::number(out, o, count);
+    let o = space(out, o);
+    let o = flag(out, o, rising.answer);
+    let o = space(out, o);
+    let o = flag(out, o, falling.answer);
+    text::line_end(out, o)
 }
 
 // Runs of 0 to 7 strokes from a place on.
 fn runs_from(
+    out: &mut Buffer,
+    o: Buffered,
     stand: Stand,
     rt: &[i64],
     ri: &[i32],
@@ -545,10 +619,13 @@ fn runs_from(
     fs: &[[i64; 6]],
     fp: &[[f64; 18]],
     first: usize,
-) {
+) -> Buffered {
+    let mut now = o;
     let mut n: usize = 0;
     while n < 8 {
-        run_line(
+        now = run_line(
+            out,
+            now,
             stand,
             rt,
             ri,
@@ -570,9 +647,12 @@ fn runs_from(
         );
         n += 1;
     }
+    now
 }
 
 fn runs(
+    out: &mut Buffer,
+    o: Buffered,
     stand: Stand,
     rt: &[i64],
     ri: &[i32],
@@ -589,14 +669,17 @@ fn runs(
     se: &[[i64; 101]],
     fs: &[[i64; 6]],
     fp: &[[f64; 18]],
-) {
+) -> Buffered {
     let n = stand.strokes;
+    let mut now = o;
     let mut i: usize = 0;
     while i < 65 {
         if n < i {
-            return;
+            return now;
         }
-        runs_from(
+        now = runs_from(
+            out,
+            now,
             stand,
             rt,
             ri,
@@ -617,30 +700,31 @@ fn runs(
         );
         i += 1;
     }
+    now
 }
 
-fn answers_line(a: FractalAnswers) {
-    io::write_all(STDOUT_FILENO, b"answers");
-    let s = a.power_str;
+fn strength(out: &mut Buffer, o: Buffered, s: Strength) -> Buffered {
     match s {
-        Strength::Strong => {
-            io::write_all(STDOUT_FILENO, b" strong");
-        }
-        Strength::Medium => {
-            io::write_all(STDOUT_FILENO, b" medium");
-        }
-        Strength::Weak => {
-            io::write_all(STDOUT_FILENO, b" weak");
-        }
+        Strength::Strong => put(out, o, b" strong"),
+        Strength::Medium => put(out, o, b" medium"),
+        Strength::Weak => put(out, o, b" weak"),
     }
-    spaced_float(a.power_volume);
-    space();
-    flag(a.has_zs);
-    text::line_end();
+}
+
+fn answers_line(out: &mut Buffer, o: Buffered, a: FractalAnswers) -> Buffered {
+    let o = put(out, o, b"answers");
+    let s = a.power_str;
+    let o = strength(out, o, s);
+    let o = spaced_float(out, o, a.power_volume);
+    let o = space(out, o);
+    let o = flag(out, o, a.has_zs);
+    text::line_end(out, o)
 }
 
 // The answers of each fractal of the stroke at a place.
 fn stroke_answers(
+    out: &mut Buffer,
+    o: Buffered,
     stand: Stand,
     rt: &[i64],
     ri: &[i32],
@@ -658,7 +742,8 @@ fn stroke_answers(
     fs: &[[i64; 6]],
     fp: &[[f64; 18]],
     stroke: usize,
-) {
+) -> Buffered {
+    let mut now = o;
     let mut j: usize = 0;
     while j < 2048 {
         let r = reports::stroke_fractal_answers(
@@ -682,14 +767,17 @@ fn stroke_answers(
             j,
         );
         if r.failed > 0 {
-            return;
+            return now;
         }
-        answers_line(r.answers);
+        now = answers_line(out, now, r.answers);
         j += 1;
     }
+    now
 }
 
 fn all_answers(
+    out: &mut Buffer,
+    o: Buffered,
     stand: Stand,
     rt: &[i64],
     ri: &[i32],
@@ -706,14 +794,17 @@ fn all_answers(
     se: &[[i64; 101]],
     fs: &[[i64; 6]],
     fp: &[[f64; 18]],
-) {
+) -> Buffered {
     let n = stand.strokes;
+    let mut now = o;
     let mut i: usize = 0;
     while i < 65 {
         if n <= i {
-            return;
+            return now;
         }
-        stroke_answers(
+        now = stroke_answers(
+            out,
+            now,
             stand,
             rt,
             ri,
@@ -734,10 +825,13 @@ fn all_answers(
         );
         i += 1;
     }
+    now
 }
 
 // .. and of each fractal of the unfinished bars.
 fn unfinished_answers(
+    out: &mut Buffer,
+    o: Buffered,
     stand: Stand,
     rt: &[i64],
     ri: &[i32],
@@ -754,7 +848,8 @@ fn unfinished_answers(
     se: &[[i64; 101]],
     fs: &[[i64; 6]],
     fp: &[[f64; 18]],
-) {
+) -> Buffered {
+    let mut now = o;
     let mut j: usize = 0;
     while j < 2048 {
         let r = reports::unfinished_fractal_answers(
@@ -777,15 +872,18 @@ fn unfinished_answers(
             j,
         );
         if r.failed > 0 {
-            return;
+            return now;
         }
-        answers_line(r.answers);
+        now = answers_line(out, now, r.answers);
         j += 1;
     }
+    now
 }
 
 // get_ubi, or `no` where question 15 fails.
 fn unfinished(
+    out: &mut Buffer,
+    o: Buffered,
     stand: Stand,
     rt: &[i64],
     ri: &[i32],
@@ -802,7 +900,7 @@ fn unfinished(
     se: &[[i64; 101]],
     fs: &[[i64; 6]],
     fp: &[[f64; 18]],
-) {
+) -> Buffered {
     let u = reports::get_ubi(
         stand,
         rt,
@@ -822,28 +920,29 @@ fn unfinished(
         fp,
     );
     if u.failed > 0 {
-        io::write_all(STDOUT_FILENO, b"unfinished no\n");
-        return;
+        return put(out, o, b"unfinished no\n");
     }
-    io::write_all(STDOUT_FILENO, b"unfinished");
+    let o = put(out, o, b"unfinished");
     let d = u.direction;
-    text::direction(d);
-    spaced_float(u.high);
-    spaced_float(u.low);
+    let o = text::direction(out, o, d);
+    let o = spaced_float(out, o, u.high);
+    let o = spaced_float(out, o, u.low);
     let h = u.highBar;
     let l = u.lowBar;
     let f = u.first;
     let m = f.mid;
-    text::time(h.time);
-    text::time(l.time);
-    text::number(u.bars);
-    text::number(u.raw);
-    text::number(u.fractals);
-    text::time(m.time);
-    text::line_end();
+    let o = text::time(out, o, h.time);
+    let o = text::time(out, o, l.time);
+    let o = text::number(out, o, u.bars);
+    let o = text::number(out, o, u.raw);
+    let o = text::number(out, o, u.fractals);
+    let o = text::time(out, o, m.time);
+    text::line_end(out, o)
 }
 
 fn finished(
+    out: &mut Buffer,
+    o: Buffered,
     stand: Stand,
     rt: &[i64],
     ri: &[i32],
@@ -860,7 +959,7 @@ fn finished(
     se: &[[i64; 101]],
     fs: &[[i64; 6]],
     fp: &[[f64; 18]],
-) {
+) -> Buffered {
     let r = reports::get_finished_bis(
         stand,
         rt,
@@ -879,12 +978,14 @@ fn finished(
         fs,
         fp,
     );
-    io::write_all(STDOUT_FILENO, b"finished");
-    text::number(r.count);
-    text::line_end();
+    let o = put(out, o, b"finished");
+    let o = text::number(out, o, r.count);
+    text::line_end(out, o)
 }
 
 fn extends(
+    out: &mut Buffer,
+    o: Buffered,
     stand: Stand,
     rt: &[i64],
     ri: &[i32],
@@ -901,7 +1002,7 @@ fn extends(
     se: &[[i64; 101]],
     fs: &[[i64; 6]],
     fp: &[[f64; 18]],
-) {
+) -> Buffered {
     let r = reports::last_bi_extend(
         stand,
         rt,
@@ -920,12 +1021,14 @@ fn extends(
         fs,
         fp,
     );
-    io::write_all(STDOUT_FILENO, b"extend ");
-    flag(r.extends);
-    text::line_end();
+    let o = put(out, o, b"extend ");
+    let o = flag(out, o, r.extends);
+    text::line_end(out, o)
 }
 
 fn finished_zones(
+    out: &mut Buffer,
+    o: Buffered,
     stand: Stand,
     rt: &[i64],
     ri: &[i32],
@@ -942,7 +1045,7 @@ fn finished_zones(
     se: &[[i64; 101]],
     fs: &[[i64; 6]],
     fp: &[[f64; 18]],
-) {
+) -> Buffered {
     let r = reports::get_finished_bis(
         stand,
         rt,
@@ -962,6 +1065,8 @@ fn finished_zones(
         fp,
     );
     zones_of(
+        out,
+        o,
         b"fin-",
         stand,
         rt,
@@ -980,47 +1085,60 @@ fn finished_zones(
         fs,
         fp,
         r.count,
-    );
+    )
+}
+
+fn gap_word(out: &mut Buffer, o: Buffered, kind: u64) -> Buffered {
+    if kind == 1 {
+        return put(out, o, b"gap up");
+    }
+    put(out, o, b"gap down")
 }
 
 // A gap as the listing has it: 0 is none, 1 up, 2 down; then its edges and its ratio.
-fn gap_line(kind: u64, values: [f64; 3], covered: bool) {
+fn gap_line(out: &mut Buffer, o: Buffered, kind: u64, values: [f64; 3], covered: bool) -> Buffered {
     if kind == 0 {
-        io::write_all(STDOUT_FILENO, b"gap none\n");
-        return;
+        return put(out, o, b"gap none\n");
     }
-    if kind == 1 {
-        io::write_all(STDOUT_FILENO, b"gap up");
-    } else {
-        io::write_all(STDOUT_FILENO, b"gap down");
-    }
-    spaced_float(values[0]);
-    spaced_float(values[1]);
-    spaced_float(values[2]);
-    space();
-    flag(covered);
-    text::line_end();
+    let o = gap_word(out, o, kind);
+    let o = spaced_float(out, o, values[0]);
+    let o = spaced_float(out, o, values[1]);
+    let o = spaced_float(out, o, values[2]);
+    let o = space(out, o);
+    let o = flag(out, o, covered);
+    text::line_end(out, o)
 }
 
-fn gap_lines(kinds: &[u64], values: &[[f64; 3]], covered: &[bool], n: usize) {
+fn gap_lines(
+    out: &mut Buffer,
+    o: Buffered,
+    kinds: &[u64],
+    values: &[[f64; 3]],
+    covered: &[bool],
+    n: usize,
+) -> Buffered {
+    let mut now = o;
     let mut i: usize = 0;
     while i < n {
         if kinds.len() <= i {
-            return;
+            return now;
         }
         if values.len() <= i {
-            return;
+            return now;
         }
         if covered.len() <= i {
-            return;
+            return now;
         }
-        gap_line(kinds[i], values[i], covered[i]);
+        now = gap_line(out, now, kinds[i], values[i], covered[i]);
         i += 1;
     }
+    now
 }
 
 // Each pair of neighbouring kept raw bars.
 fn gaps(
+    out: &mut Buffer,
+    o: Buffered,
     stand: Stand,
     rt: &[i64],
     ri: &[i32],
@@ -1037,7 +1155,7 @@ fn gaps(
     se: &[[i64; 101]],
     fs: &[[i64; 6]],
     fp: &[[f64; 18]],
-) {
+) -> Buffered {
     let mut kinds = [0u64; 4096];
     let mut values = [[0f64; 3]; 4096];
     let mut covered = [false; 4096];
@@ -1062,11 +1180,13 @@ fn gaps(
         &mut values,
         &mut covered,
     );
-    gap_lines(&kinds, &values, &covered, r.count);
+    gap_lines(out, o, &kinds, &values, &covered, r.count)
 }
 
 // The fractals of the unfinished bars.
 fn unfinished_fractals(
+    out: &mut Buffer,
+    o: Buffered,
     stand: Stand,
     rt: &[i64],
     ri: &[i32],
@@ -1083,7 +1203,7 @@ fn unfinished_fractals(
     se: &[[i64; 101]],
     fs: &[[i64; 6]],
     fp: &[[f64; 18]],
-) {
+) -> Buffered {
     let mut os = [[0i64; 6]; 3072];
     let mut op = [[0f64; 18]; 3072];
     let r = reports::ubi_fxs(
@@ -1106,26 +1226,36 @@ fn unfinished_fractals(
         &mut os,
         &mut op,
     );
-    ubifx_lines(&os, &op, r.count);
+    ubifx_lines(out, o, &os, &op, r.count)
 }
 
-fn ubifx_lines(os: &[[i64; 6]], op: &[[f64; 18]], n: usize) {
+fn ubifx_lines(
+    out: &mut Buffer,
+    o: Buffered,
+    os: &[[i64; 6]],
+    op: &[[f64; 18]],
+    n: usize,
+) -> Buffered {
+    let mut now = o;
     let mut i: usize = 0;
     while i < n {
         if os.len() <= i {
-            return;
+            return now;
         }
         if op.len() <= i {
-            return;
+            return now;
         }
-        io::write_all(STDOUT_FILENO, b"ubifx");
-        text::fractal_row(os[i], op[i]);
+        now = put(out, now, b"ubifx");
+        now = text::fractal_row(out, now, os[i], op[i]);
         i += 1;
     }
+    now
 }
 
 // The reports over the strokes.
 fn over_strokes(
+    out: &mut Buffer,
+    o: Buffered,
     stand: Stand,
     rt: &[i64],
     ri: &[i32],
@@ -1142,8 +1272,10 @@ fn over_strokes(
     se: &[[i64; 101]],
     fs: &[[i64; 6]],
     fp: &[[f64; 18]],
-) {
-    stroke_reports(
+) -> Buffered {
+    let o = stroke_reports(
+        out,
+        o,
         stand,
         rt,
         ri,
@@ -1161,7 +1293,9 @@ fn over_strokes(
         fs,
         fp,
     );
-    fx_list(
+    let o = fx_list(
+        out,
+        o,
         stand,
         rt,
         ri,
@@ -1179,7 +1313,9 @@ fn over_strokes(
         fs,
         fp,
     );
-    finished(
+    let o = finished(
+        out,
+        o,
         stand,
         rt,
         ri,
@@ -1197,7 +1333,9 @@ fn over_strokes(
         fs,
         fp,
     );
-    extends(
+    let o = extends(
+        out,
+        o,
         stand,
         rt,
         ri,
@@ -1215,7 +1353,9 @@ fn over_strokes(
         fs,
         fp,
     );
-    zones_of(
+    let o = zones_of(
+        out,
+        o,
         b"",
         stand,
         rt,
@@ -1235,7 +1375,9 @@ fn over_strokes(
         fp,
         stand.strokes,
     );
-    finished_zones(
+    let o = finished_zones(
+        out,
+        o,
         stand,
         rt,
         ri,
@@ -1254,6 +1396,8 @@ fn over_strokes(
         fp,
     );
     runs(
+        out,
+        o,
         stand,
         rt,
         ri,
@@ -1270,11 +1414,13 @@ fn over_strokes(
         se,
         fs,
         fp,
-    );
+    )
 }
 
 // All of them, of a stand that question 4 has passed.
 fn over_all(
+    out: &mut Buffer,
+    o: Buffered,
     stand: Stand,
     rt: &[i64],
     ri: &[i32],
@@ -1291,8 +1437,10 @@ fn over_all(
     se: &[[i64; 101]],
     fs: &[[i64; 6]],
     fp: &[[f64; 18]],
-) {
-    over_strokes(
+) -> Buffered {
+    let o = over_strokes(
+        out,
+        o,
         stand,
         rt,
         ri,
@@ -1310,7 +1458,9 @@ fn over_all(
         fs,
         fp,
     );
-    all_answers(
+    let o = all_answers(
+        out,
+        o,
         stand,
         rt,
         ri,
@@ -1328,7 +1478,9 @@ fn over_all(
         fs,
         fp,
     );
-    unfinished_answers(
+    let o = unfinished_answers(
+        out,
+        o,
         stand,
         rt,
         ri,
@@ -1346,7 +1498,9 @@ fn over_all(
         fs,
         fp,
     );
-    unfinished_fractals(
+    let o = unfinished_fractals(
+        out,
+        o,
         stand,
         rt,
         ri,
@@ -1364,7 +1518,9 @@ fn over_all(
         fs,
         fp,
     );
-    unfinished(
+    let o = unfinished(
+        out,
+        o,
         stand,
         rt,
         ri,
@@ -1382,7 +1538,9 @@ fn over_all(
         fs,
         fp,
     );
-    gaps(
+    let o = gaps(
+        out,
+        o,
         stand,
         rt,
         ri,
@@ -1400,10 +1558,12 @@ fn over_all(
         fs,
         fp,
     );
-    io::write_all(STDOUT_FILENO, b"end\n");
+    put(out, o, b"end\n")
 }
 
 pub fn report(
+    out: &mut Buffer,
+    o: Buffered,
     stand: Stand,
     rt: &[i64],
     ri: &[i32],
@@ -1420,7 +1580,7 @@ pub fn report(
     se: &[[i64; 101]],
     fs: &[[i64; 6]],
     fp: &[[f64; 18]],
-) {
+) -> Buffered {
     if question4::is_sound(
         stand,
         rt,
@@ -1439,7 +1599,9 @@ pub fn report(
         fs,
         fp,
     ) {
-        over_all(
+        return over_all(
+            out,
+            o,
             stand,
             rt,
             ri,
@@ -1457,7 +1619,6 @@ pub fn report(
             fs,
             fp,
         );
-        return;
     }
-    text::refusal(4);
+    text::refusal(out, o, 4)
 }

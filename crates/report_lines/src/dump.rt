@@ -1,9 +1,10 @@
 // `d`: the stand and what its stores hold, whatever stand it is.
 use crate::text;
-use bar_lines::show_bar;
-use bar_lines::space;
+use bar_lines::put_bar;
 use bars::Bar;
-use libc::STDOUT_FILENO;
+use lines::Buffer;
+use lines::Buffered;
+use lines::put;
 use strokes::Stand;
 
 // Whether one of the first n times is t.
@@ -21,23 +22,32 @@ fn is_kept(rt: &[i64], n: usize, t: i64) -> bool {
     false
 }
 
-fn element(rt: &[i64], n: usize, t: i64) {
+fn element(out: &mut Buffer, o: Buffered, rt: &[i64], n: usize, t: i64) -> Buffered {
     if is_kept(rt, n, t) {
-        space();
-        lines::write_whole(t);
+        return text::time(out, o, t);
     }
+    o
 }
 
 // The times of the elements that name kept raw bars, of which there are n.
-fn elements(rt: &[i64], n: usize, row: [i64; 101], count: usize) {
+fn elements(
+    out: &mut Buffer,
+    o: Buffered,
+    rt: &[i64],
+    n: usize,
+    row: [i64; 101],
+    count: usize,
+) -> Buffered {
+    let mut now = o;
     let mut i: usize = 0;
     while i < 101 {
         if count <= i {
-            return;
+            return now;
         }
-        element(rt, n, row[i]);
+        now = element(out, now, rt, n, row[i]);
         i += 1;
     }
+    now
 }
 
 fn bar_of(time: i64, id: i32, p: [f64; 6]) -> Bar {
@@ -54,27 +64,38 @@ fn bar_of(time: i64, id: i32, p: [f64; 6]) -> Bar {
 }
 
 // Each of the first n raw bars.
-fn raw_lines(rt: &[i64], ri: &[i32], rp: &[[f64; 6]], n: usize) {
+fn raw_lines(
+    out: &mut Buffer,
+    o: Buffered,
+    rt: &[i64],
+    ri: &[i32],
+    rp: &[[f64; 6]],
+    n: usize,
+) -> Buffered {
+    let mut now = o;
     let mut i: usize = 0;
     while i < n {
         if rt.len() <= i {
-            return;
+            return now;
         }
         if ri.len() <= i {
-            return;
+            return now;
         }
         if rp.len() <= i {
-            return;
+            return now;
         }
-        io::write_all(STDOUT_FILENO, b"raw ");
-        show_bar(bar_of(rt[i], ri[i], rp[i]));
-        text::line_end();
+        now = put(out, now, b"raw ");
+        now = put_bar(out, now, bar_of(rt[i], ri[i], rp[i]));
+        now = text::line_end(out, now);
         i += 1;
     }
+    now
 }
 
 // The merged bar at a place, and its elements where `named` says so.
 fn merged_line(
+    out: &mut Buffer,
+    o: Buffered,
     rt: &[i64],
     n: usize,
     ts: &[i64],
@@ -84,32 +105,37 @@ fn merged_line(
     es: &[[i64; 101]],
     at: usize,
     named: bool,
-) {
+) -> Buffered {
     if ts.len() <= at {
-        return;
+        return o;
     }
     if is.len() <= at {
-        return;
+        return o;
     }
     if ps.len() <= at {
-        return;
+        return o;
     }
     if cs.len() <= at {
-        return;
+        return o;
     }
     if es.len() <= at {
-        return;
+        return o;
     }
-    show_bar(bar_of(ts[at], is[at], ps[at]));
-    io::write_all(STDOUT_FILENO, b" :");
+    let row = es[at];
+    let count = cs[at];
+    let o = put_bar(out, o, bar_of(ts[at], is[at], ps[at]));
+    let o = put(out, o, b" :");
     if named {
-        elements(rt, n, es[at], cs[at]);
+        let o = elements(out, o, rt, n, row, count);
+        return text::line_end(out, o);
     }
-    text::line_end();
+    text::line_end(out, o)
 }
 
 // Each of the unfinished bars, of which there are m.
 fn unfinished_lines(
+    out: &mut Buffer,
+    o: Buffered,
     rt: &[i64],
     n: usize,
     ut: &[i64],
@@ -118,51 +144,68 @@ fn unfinished_lines(
     uc: &[usize],
     ue: &[[i64; 101]],
     m: usize,
-) {
+) -> Buffered {
+    let mut now = o;
     let mut i: usize = 0;
     while i < m {
-        io::write_all(STDOUT_FILENO, b"ubi ");
-        merged_line(rt, n, ut, ui, up, uc, ue, i, true);
+        now = put(out, now, b"ubi ");
+        now = merged_line(out, now, rt, n, ut, ui, up, uc, ue, i, true);
         i += 1;
     }
+    now
 }
 
 // `fx` and the three `fb` lines of the fractal whose rows these are.
-fn fractal_lines(t: [i64; 6], p: [f64; 18]) {
-    io::write_all(STDOUT_FILENO, b"fx");
-    text::fractal_row(t, p);
-    fractal_bar(t[0], t[3], [p[0], p[1], p[2], p[3], p[4], p[5]]);
-    fractal_bar(t[1], t[4], [p[6], p[7], p[8], p[9], p[10], p[11]]);
-    fractal_bar(t[2], t[5], [p[12], p[13], p[14], p[15], p[16], p[17]]);
+fn fractal_lines(out: &mut Buffer, o: Buffered, t: [i64; 6], p: [f64; 18]) -> Buffered {
+    let o = put(out, o, b"fx");
+    let o = text::fractal_row(out, o, t, p);
+    let o = fractal_bar(out, o, t[0], t[3], [p[0], p[1], p[2], p[3], p[4], p[5]]);
+    let o = fractal_bar(out, o, t[1], t[4], [p[6], p[7], p[8], p[9], p[10], p[11]]);
+    fractal_bar(
+        out,
+        o,
+        t[2],
+        t[5],
+        [p[12], p[13], p[14], p[15], p[16], p[17]],
+    )
 }
 
-fn fractal_bar(time: i64, id: i64, p: [f64; 6]) {
-    io::write_all(STDOUT_FILENO, b"fb ");
-    lines::write_whole(time);
-    text::time(id);
+fn fractal_bar(out: &mut Buffer, o: Buffered, time: i64, id: i64, p: [f64; 6]) -> Buffered {
+    let o = put(out, o, b"fb ");
+    let o = lines::put_whole(out, o, time);
+    let mut now = text::time(out, o, id);
     let mut i: usize = 0;
     while i < 6 {
-        bar_lines::spaced_float(p[i]);
+        now = bar_lines::spaced_float(out, now, p[i]);
         i += 1;
     }
-    text::line_end();
+    text::line_end(out, now)
 }
 
 // The fractals of a stroke, from place `at` on, m of them.
-fn fractals_lines(fs: &[[i64; 6]], fp: &[[f64; 18]], at: usize, m: usize) {
+fn fractals_lines(
+    out: &mut Buffer,
+    o: Buffered,
+    fs: &[[i64; 6]],
+    fp: &[[f64; 18]],
+    at: usize,
+    m: usize,
+) -> Buffered {
+    let mut now = o;
     let mut i = at;
     let mut left = m;
     while left > 0 {
         if fs.len() <= i {
-            return;
+            return now;
         }
         if fp.len() <= i {
-            return;
+            return now;
         }
-        fractal_lines(fs[i], fp[i]);
+        now = fractal_lines(out, now, fs[i], fp[i]);
         i += 1;
         left -= 1;
     }
+    now
 }
 
 // The end fractal of m: the last, or the last but one where they are odd in number.
@@ -173,31 +216,42 @@ fn end_of(m: usize) -> usize {
     m / 2 * 2 - 1
 }
 
-fn end_line(fs: &[[i64; 6]], fp: &[[f64; 18]], at: usize) {
+fn end_line(
+    out: &mut Buffer,
+    o: Buffered,
+    fs: &[[i64; 6]],
+    fp: &[[f64; 18]],
+    at: usize,
+) -> Buffered {
     if fs.len() <= at {
-        return;
+        return o;
     }
     if fp.len() <= at {
-        return;
+        return o;
     }
-    text::fractal_row(fs[at], fp[at]);
+    text::fractal_row(out, o, fs[at], fp[at])
+}
+
+fn stroke_direction(out: &mut Buffer, o: Buffered, p: [f64; 18]) -> Buffered {
+    if text::is_top(p) {
+        return put(out, o, b" down");
+    }
+    put(out, o, b" up")
 }
 
 // `stroke up|down NFX NBARS`: up from a bottom.
-fn stroke_head(p: [f64; 18], m: usize, n: usize) {
-    io::write_all(STDOUT_FILENO, b"stroke");
-    if text::is_top(p) {
-        io::write_all(STDOUT_FILENO, b" down");
-    } else {
-        io::write_all(STDOUT_FILENO, b" up");
-    }
-    text::number(m);
-    text::number(n);
-    text::line_end();
+fn stroke_head(out: &mut Buffer, o: Buffered, p: [f64; 18], m: usize, n: usize) -> Buffered {
+    let o = put(out, o, b"stroke");
+    let o = stroke_direction(out, o, p);
+    let o = text::number(out, o, m);
+    let o = text::number(out, o, n);
+    text::line_end(out, o)
 }
 
 // The merged bars of a stroke, from place `at` on, n of them; the first and the last without elements.
 fn stroke_bars(
+    out: &mut Buffer,
+    o: Buffered,
     rt: &[i64],
     raw: usize,
     st: &[i64],
@@ -207,19 +261,33 @@ fn stroke_bars(
     se: &[[i64; 101]],
     at: usize,
     n: usize,
-) {
+) -> Buffered {
+    let mut now = o;
     let mut i: usize = 0;
     while i < n {
         if st.len() <= i {
-            return;
+            return now;
         }
         if st.len() - i <= at {
-            return;
+            return now;
         }
-        io::write_all(STDOUT_FILENO, b"bar ");
-        merged_line(rt, raw, st, si, sp, sc, se, at + i, is_inner(i, n));
+        now = put(out, now, b"bar ");
+        now = merged_line(
+            out,
+            now,
+            rt,
+            raw,
+            st,
+            si,
+            sp,
+            sc,
+            se,
+            at + i,
+            is_inner(i, n),
+        );
         i += 1;
     }
+    now
 }
 
 // Neither the first nor the last of n.
@@ -235,6 +303,8 @@ fn is_inner(i: usize, n: usize) -> bool {
 
 // The stroke whose rows begin at place `at`, with n merged bars and m fractals.
 fn stroke_lines(
+    out: &mut Buffer,
+    o: Buffered,
     rt: &[i64],
     raw: usize,
     st: &[i64],
@@ -247,28 +317,31 @@ fn stroke_lines(
     at: usize,
     n: usize,
     m: usize,
-) {
+) -> Buffered {
     if fp.len() <= at {
-        return;
+        return o;
     }
     let e = end_of(m);
     if fp.len() <= e {
-        return;
+        return o;
     }
     if fp.len() - e <= at {
-        return;
+        return o;
     }
-    stroke_head(fp[at], m, n);
-    io::write_all(STDOUT_FILENO, b"a");
-    end_line(fs, fp, at);
-    io::write_all(STDOUT_FILENO, b"z");
-    end_line(fs, fp, at + e);
-    fractals_lines(fs, fp, at, m);
-    stroke_bars(rt, raw, st, si, sp, sc, se, at, n);
+    let last = at + e;
+    let o = stroke_head(out, o, fp[at], m, n);
+    let o = put(out, o, b"a");
+    let o = end_line(out, o, fs, fp, at);
+    let o = put(out, o, b"z");
+    let o = end_line(out, o, fs, fp, last);
+    let o = fractals_lines(out, o, fs, fp, at, m);
+    stroke_bars(out, o, rt, raw, st, si, sp, sc, se, at, n)
 }
 
 // Every kept stroke, oldest first.
 fn strokes_lines(
+    out: &mut Buffer,
+    o: Buffered,
     rt: &[i64],
     st: &[i64],
     si: &[i32],
@@ -278,18 +351,21 @@ fn strokes_lines(
     fs: &[[i64; 6]],
     fp: &[[f64; 18]],
     stand: Stand,
-) {
+) -> Buffered {
     let bars = stand.bars;
     let fractals = stand.fractals;
     let raw = stand.raw;
+    let mut now = o;
     let mut at: usize = 0;
     let mut i: usize = 0;
     while i < 65 {
         if stand.strokes <= i {
-            return;
+            return now;
         }
         let n = bars[i] as usize;
-        stroke_lines(
+        now = stroke_lines(
+            out,
+            now,
             rt,
             raw,
             st,
@@ -304,27 +380,30 @@ fn strokes_lines(
             fractals[i] as usize,
         );
         if st.len() < n {
-            return;
+            return now;
         }
         if st.len() - n < at {
-            return;
+            return now;
         }
         at += n;
         i += 1;
     }
+    now
 }
 
-fn stand_line(stand: Stand) {
-    io::write_all(STDOUT_FILENO, b"stand");
-    text::number(stand.minimum);
-    text::number(stand.most);
-    text::number(stand.raw);
-    text::number(stand.unfinished);
-    text::number(stand.strokes);
-    text::line_end();
+fn stand_line(out: &mut Buffer, o: Buffered, stand: Stand) -> Buffered {
+    let o = put(out, o, b"stand");
+    let o = text::number(out, o, stand.minimum);
+    let o = text::number(out, o, stand.most);
+    let o = text::number(out, o, stand.raw);
+    let o = text::number(out, o, stand.unfinished);
+    let o = text::number(out, o, stand.strokes);
+    text::line_end(out, o)
 }
 
 pub fn stand_lines(
+    out: &mut Buffer,
+    o: Buffered,
     stand: Stand,
     rt: &[i64],
     ri: &[i32],
@@ -341,10 +420,10 @@ pub fn stand_lines(
     se: &[[i64; 101]],
     fs: &[[i64; 6]],
     fp: &[[f64; 18]],
-) {
-    stand_line(stand);
-    raw_lines(rt, ri, rp, stand.raw);
-    unfinished_lines(rt, stand.raw, ut, ui, up, uc, ue, stand.unfinished);
-    strokes_lines(rt, st, si, sp, sc, se, fs, fp, stand);
-    io::write_all(STDOUT_FILENO, b"end\n");
+) -> Buffered {
+    let o = stand_line(out, o, stand);
+    let o = raw_lines(out, o, rt, ri, rp, stand.raw);
+    let o = unfinished_lines(out, o, rt, stand.raw, ut, ui, up, uc, ue, stand.unfinished);
+    let o = strokes_lines(out, o, rt, st, si, sp, sc, se, fs, fp, stand);
+    put(out, o, b"end\n")
 }

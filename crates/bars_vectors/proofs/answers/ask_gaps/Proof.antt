@@ -1,24 +1,24 @@
 use Prim.Native.Nat.{_-_, _≤_}
-use mathlib.Core.Path.{_≡_}
 use lib.ListN.{length}
+use mathlib.Core.Path.{_≡_}
 use borrow.Author.Needs.{needs}
 use Rattle.bars_vectors.proofs.answers.ask_gaps.Statement.{statement}
 use Rattle.bars_vectors.proofs.answers.ask_gaps.Tie as tie
 
 abbrev Inv-loop : tie.InvT-loop
-Inv-loop line from prices₀ n₀ at₀ prices n at = (n ≤ 64) × (length prices ≡ 64)
+Inv-loop out₀ o line from prices₀ n₀ at₀ out prices n at = (n ≤ 64) × (length prices ≡ 64)
 
 abbrev μ-loop : tie.MeasureT-loop
-μ-loop line from prices₀ n₀ at₀ prices n at = 64 - n
+μ-loop out₀ o line from prices₀ n₀ at₀ out prices n at = 64 - n
 
 loop-holds : tie.Need-loop-holds Inv-loop μ-loop
 loop-holds c = search needs
 
-slice-aggregate-show-gaps : tie.Need-slice-aggregate-show-gaps Inv-loop μ-loop
-slice-aggregate-show-gaps c = search needs
+slice-aggregate-put-gaps : tie.Need-slice-aggregate-put-gaps Inv-loop μ-loop
+slice-aggregate-put-gaps c = search needs
 
-show-gaps-requires : tie.Need-show-gaps-requires Inv-loop μ-loop
-show-gaps-requires c κs = search needs
+put-gaps-requires : tie.Need-put-gaps-requires Inv-loop μ-loop
+put-gaps-requires c κs = search needs
 
 returns : tie.Need-returns Inv-loop μ-loop
 returns c = search needs
@@ -66,8 +66,8 @@ ask-gaps-spec =
     Inv-loop
     μ-loop
     loop-holds
-    slice-aggregate-show-gaps
-    show-gaps-requires
+    slice-aggregate-put-gaps
+    put-gaps-requires
     returns
     bar-at-requires
     enum-known-b

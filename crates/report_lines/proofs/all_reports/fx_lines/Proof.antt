@@ -1,13 +1,13 @@
-use Prim.Native.Nat.{_≤_, _-_}
+use Prim.Native.Nat.{_-_, _≤_}
 use borrow.Author.Needs.{needs}
 use Rattle.report_lines.proofs.all_reports.fx_lines.Statement.{statement}
 use Rattle.report_lines.proofs.all_reports.fx_lines.Tie as tie
 
 abbrev Inv-loop : tie.InvT-loop
-Inv-loop os op n i₀ t5 i = i ≤ n
+Inv-loop out₀ os op n now₀ i₀ t8 out now i = i ≤ n
 
 abbrev μ-loop : tie.MeasureT-loop
-μ-loop os op n i₀ t5 i = n - i
+μ-loop out₀ os op n now₀ i₀ t8 out now i = n - i
 
 loop-holds : tie.Need-loop-holds Inv-loop μ-loop
 loop-holds c = search needs
@@ -18,11 +18,11 @@ returns c = search needs
 returns-2 : tie.Need-returns-2 Inv-loop μ-loop
 returns-2 c = search needs
 
-slice-aggregate-write-all : tie.Need-slice-aggregate-write-all Inv-loop μ-loop
-slice-aggregate-write-all c = search needs
+slice-aggregate-put : tie.Need-slice-aggregate-put Inv-loop μ-loop
+slice-aggregate-put c = search needs
 
-write-all-requires : tie.Need-write-all-requires Inv-loop μ-loop
-write-all-requires c κs = search needs
+put-requires : tie.Need-put-requires Inv-loop μ-loop
+put-requires c κs = search needs
 
 mul-fractal-row : tie.Need-mul-fractal-row Inv-loop μ-loop
 mul-fractal-row c = search needs
@@ -60,8 +60,8 @@ fx-lines-spec =
     loop-holds
     returns
     returns-2
-    slice-aggregate-write-all
-    write-all-requires
+    slice-aggregate-put
+    put-requires
     mul-fractal-row
     shared-slice-copy-out-fractal-row
     mul-fractal-row-2

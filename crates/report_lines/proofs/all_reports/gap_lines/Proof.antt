@@ -1,13 +1,13 @@
-use Prim.Native.Nat.{_≤_, _-_}
+use Prim.Native.Nat.{_-_, _≤_}
 use borrow.Author.Needs.{needs}
 use Rattle.report_lines.proofs.all_reports.gap_lines.Statement.{statement}
 use Rattle.report_lines.proofs.all_reports.gap_lines.Tie as tie
 
 abbrev Inv-loop : tie.InvT-loop
-Inv-loop kinds values covered n i₀ i = i ≤ n
+Inv-loop out₀ kinds values covered n now₀ i₀ out now i = i ≤ n
 
 abbrev μ-loop : tie.MeasureT-loop
-μ-loop kinds values covered n i₀ i = n - i
+μ-loop out₀ kinds values covered n now₀ i₀ out now i = n - i
 
 loop-holds : tie.Need-loop-holds Inv-loop μ-loop
 loop-holds c = search needs

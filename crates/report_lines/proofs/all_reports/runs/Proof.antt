@@ -4,10 +4,10 @@ use Rattle.report_lines.proofs.all_reports.runs.Statement.{statement}
 use Rattle.report_lines.proofs.all_reports.runs.Tie as tie
 
 abbrev Inv-loop : tie.InvT-loop
-Inv-loop stand rt ri rp ut ui up uc ue st si sp sc se fs fp n i₀ i = i ≤ 65
+Inv-loop out₀ stand rt ri rp ut ui up uc ue st si sp sc se fs fp n now₀ i₀ out now i = i ≤ 65
 
 abbrev μ-loop : tie.MeasureT-loop
-μ-loop stand rt ri rp ut ui up uc ue st si sp sc se fs fp n i₀ i = 65 - i
+μ-loop out₀ stand rt ri rp ut ui up uc ue st si sp sc se fs fp n now₀ i₀ out now i = 65 - i
 
 loop-holds : tie.Need-loop-holds Inv-loop μ-loop
 loop-holds c = search needs

@@ -1,13 +1,13 @@
-use Prim.Native.Nat.{_≤_, _-_}
+use Prim.Native.Nat.{_-_, _≤_}
 use borrow.Author.Needs.{needs}
 use Rattle.report_lines.proofs.all_reports.runs_from.Statement.{statement}
 use Rattle.report_lines.proofs.all_reports.runs_from.Tie as tie
 
 abbrev Inv-loop : tie.InvT-loop
-Inv-loop stand rt ri rp ut ui up uc ue st si sp sc se fs fp first n₀ n = n ≤ 8
+Inv-loop out₀ stand rt ri rp ut ui up uc ue st si sp sc se fs fp first now₀ n₀ out now n = n ≤ 8
 
 abbrev μ-loop : tie.MeasureT-loop
-μ-loop stand rt ri rp ut ui up uc ue st si sp sc se fs fp first n₀ n = 8 - n
+μ-loop out₀ stand rt ri rp ut ui up uc ue st si sp sc se fs fp first now₀ n₀ out now n = 8 - n
 
 loop-holds : tie.Need-loop-holds Inv-loop μ-loop
 loop-holds c = search needs

@@ -1,13 +1,13 @@
-use Prim.Native.Nat.{_≤_, _-_}
+use Prim.Native.Nat.{_-_, _≤_}
 use borrow.Author.Needs.{needs}
 use Rattle.report_lines.proofs.all_reports.stroke_answers.Statement.{statement}
 use Rattle.report_lines.proofs.all_reports.stroke_answers.Tie as tie
 
 abbrev Inv-loop : tie.InvT-loop
-Inv-loop stand rt ri rp ut ui up uc ue st si sp sc se fs fp stroke j₀ j = j ≤ 2048
+Inv-loop out₀ stand rt ri rp ut ui up uc ue st si sp sc se fs fp stroke now₀ j₀ out now j = j ≤ 2048
 
 abbrev μ-loop : tie.MeasureT-loop
-μ-loop stand rt ri rp ut ui up uc ue st si sp sc se fs fp stroke j₀ j = 2048 - j
+μ-loop out₀ stand rt ri rp ut ui up uc ue st si sp sc se fs fp stroke now₀ j₀ out now j = 2048 - j
 
 loop-holds : tie.Need-loop-holds Inv-loop μ-loop
 loop-holds c = search needs

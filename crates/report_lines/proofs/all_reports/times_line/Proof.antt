@@ -1,19 +1,19 @@
-use Prim.Native.Nat.{_≤_, _-_}
+use Prim.Native.Nat.{_-_, _≤_}
 use borrow.Author.Needs.{needs}
 use Rattle.report_lines.proofs.all_reports.times_line.Statement.{statement}
 use Rattle.report_lines.proofs.all_reports.times_line.Tie as tie
 
 abbrev Inv-loop : tie.InvT-loop
-Inv-loop ts n i₀ i = i ≤ n
+Inv-loop out₀ ts n now₀ i₀ out now i = i ≤ n
 
 abbrev μ-loop : tie.MeasureT-loop
-μ-loop ts n i₀ i = n - i
+μ-loop out₀ ts n now₀ i₀ out now i = n - i
 
-slice-aggregate-write-all : tie.Need-slice-aggregate-write-all Inv-loop μ-loop
-slice-aggregate-write-all c = search needs
+slice-aggregate-put : tie.Need-slice-aggregate-put Inv-loop μ-loop
+slice-aggregate-put c = search needs
 
-write-all-requires : tie.Need-write-all-requires Inv-loop μ-loop
-write-all-requires c κs = search needs
+put-requires : tie.Need-put-requires Inv-loop μ-loop
+put-requires c κs = search needs
 
 loop-holds : tie.Need-loop-holds Inv-loop μ-loop
 loop-holds c = search needs
@@ -48,8 +48,8 @@ times-line-spec =
     (tie.spec
     Inv-loop
     μ-loop
-    slice-aggregate-write-all
-    write-all-requires
+    slice-aggregate-put
+    put-requires
     loop-holds
     returns
     mul-time

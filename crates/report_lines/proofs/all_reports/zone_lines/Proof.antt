@@ -4,10 +4,10 @@ use Rattle.report_lines.proofs.all_reports.zone_lines.Statement.{statem
 use Rattle.report_lines.proofs.all_reports.zone_lines.Tie as tie
 
 abbrev Inv-loop : tie.InvT-loop
-Inv-loop name zt zp zn bt bp bd n at₀ i₀ at i = i ≤ n
+Inv-loop out₀ name zt zp zn bt bp bd n now₀ at₀ i₀ out now at i = i ≤ n
 
 abbrev μ-loop : tie.MeasureT-loop
-μ-loop name zt zp zn bt bp bd n at₀ i₀ at i = n - i
+μ-loop out₀ name zt zp zn bt bp bd n now₀ at₀ i₀ out now at i = n - i
 
 loop-holds : tie.Need-loop-holds Inv-loop μ-loop
 loop-holds c = search needs
@@ -48,17 +48,8 @@ zone-line-requires c κs = search needs
 zone-strokes-requires : tie.Need-zone-strokes-requires Inv-loop μ-loop
 zone-strokes-requires c κs = search needs
 
-returns-4 : tie.Need-returns-4 Inv-loop μ-loop
-returns-4 c = search needs
-
-sub-if5 : tie.Need-sub-if5 Inv-loop μ-loop
-sub-if5 c = search needs
-
-returns-5 : tie.Need-returns-5 Inv-loop μ-loop
-returns-5 c = search needs
-
-add-at : tie.Need-add-at Inv-loop μ-loop
-add-at c = search needs
+place-behind-requires : tie.Need-place-behind-requires Inv-loop μ-loop
+place-behind-requires c κs = search needs
 
 add-i : tie.Need-add-i Inv-loop μ-loop
 add-i c = search needs
@@ -69,8 +60,8 @@ loop-less c = search needs
 loop-again : tie.Need-loop-again Inv-loop μ-loop
 loop-again c = search needs
 
-returns-6 : tie.Need-returns-6 Inv-loop μ-loop
-returns-6 c = search needs
+returns-4 : tie.Need-returns-4 Inv-loop μ-loop
+returns-4 c = search needs
 
 pub zone-lines-spec : {M : Type 1} → statement M
 zone-lines-spec =
@@ -91,11 +82,8 @@ zone-lines-spec =
     shared-slice-copy-out-zone-line-2
     zone-line-requires
     zone-strokes-requires
-    returns-4
-    sub-if5
-    returns-5
-    add-at
+    place-behind-requires
     add-i
     loop-less
     loop-again
-    returns-6)
+    returns-4)

@@ -1,13 +1,13 @@
-use Prim.Native.Nat.{_≤_, _-_}
+use Prim.Native.Nat.{_≤_}
 use borrow.Author.Needs.{needs}
 use Rattle.report_lines.proofs.all_reports.zone_strokes.Statement.{statement}
 use Rattle.report_lines.proofs.all_reports.zone_strokes.Tie as tie
 
 abbrev Inv-loop : tie.InvT-loop
-Inv-loop name bt bp bd at n i₀ left₀ i left = left ≤ n
+Inv-loop out₀ name bt bp bd at n now₀ i₀ left₀ out now i left = left ≤ n
 
 abbrev μ-loop : tie.MeasureT-loop
-μ-loop name bt bp bd at n i₀ left₀ i left = left
+μ-loop out₀ name bt bp bd at n now₀ i₀ left₀ out now i left = left
 
 loop-holds : tie.Need-loop-holds Inv-loop μ-loop
 loop-holds c = search needs

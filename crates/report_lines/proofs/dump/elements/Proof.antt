@@ -1,13 +1,13 @@
-use Prim.Native.Nat.{_≤_, _-_}
+use Prim.Native.Nat.{_-_, _≤_}
 use borrow.Author.Needs.{needs}
 use Rattle.report_lines.proofs.dump.elements.Statement.{statement}
 use Rattle.report_lines.proofs.dump.elements.Tie as tie
 
 abbrev Inv-loop : tie.InvT-loop
-Inv-loop rt n count row i₀ i = i ≤ 101
+Inv-loop out₀ rt n count row now₀ i₀ out now i = i ≤ 101
 
 abbrev μ-loop : tie.MeasureT-loop
-μ-loop rt n count row i₀ i = 101 - i
+μ-loop out₀ rt n count row now₀ i₀ out now i = 101 - i
 
 loop-holds : tie.Need-loop-holds Inv-loop μ-loop
 loop-holds c = search needs

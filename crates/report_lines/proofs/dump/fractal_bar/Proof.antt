@@ -1,22 +1,22 @@
-use Prim.Native.Nat.{_≤_, _-_}
+use Prim.Native.Nat.{_-_, _≤_}
 use borrow.Author.Needs.{needs}
 use Rattle.report_lines.proofs.dump.fractal_bar.Statement.{statement}
 use Rattle.report_lines.proofs.dump.fractal_bar.Tie as tie
 
 abbrev Inv-loop : tie.InvT-loop
-Inv-loop time id p i₀ i = i ≤ 6
+Inv-loop out₀ time id p now₀ i₀ out now i = i ≤ 6
 
 abbrev μ-loop : tie.MeasureT-loop
-μ-loop time id p i₀ i = 6 - i
+μ-loop out₀ time id p now₀ i₀ out now i = 6 - i
 
-slice-aggregate-write-all : tie.Need-slice-aggregate-write-all Inv-loop μ-loop
-slice-aggregate-write-all c = search needs
+slice-aggregate-put : tie.Need-slice-aggregate-put Inv-loop μ-loop
+slice-aggregate-put c = search needs
 
-write-all-requires : tie.Need-write-all-requires Inv-loop μ-loop
-write-all-requires c κs = search needs
+put-requires : tie.Need-put-requires Inv-loop μ-loop
+put-requires c κs = search needs
 
-write-whole-requires : tie.Need-write-whole-requires Inv-loop μ-loop
-write-whole-requires c κs = search needs
+put-whole-requires : tie.Need-put-whole-requires Inv-loop μ-loop
+put-whole-requires c κs = search needs
 
 time-requires : tie.Need-time-requires Inv-loop μ-loop
 time-requires c κs = search needs
@@ -54,9 +54,9 @@ fractal-bar-spec =
     (tie.spec
     Inv-loop
     μ-loop
-    slice-aggregate-write-all
-    write-all-requires
-    write-whole-requires
+    slice-aggregate-put
+    put-requires
+    put-whole-requires
     time-requires
     loop-holds
     mul-spaced-float

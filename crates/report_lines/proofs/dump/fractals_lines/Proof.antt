@@ -4,10 +4,10 @@ use Rattle.report_lines.proofs.dump.fractals_lines.Statement.{statement
 use Rattle.report_lines.proofs.dump.fractals_lines.Tie as tie
 
 abbrev Inv-loop : tie.InvT-loop
-Inv-loop fs fp at m i₀ left₀ i left = left ≤ m
+Inv-loop out₀ fs fp at m now₀ i₀ left₀ out now i left = left ≤ m
 
 abbrev μ-loop : tie.MeasureT-loop
-μ-loop fs fp at m i₀ left₀ i left = left
+μ-loop out₀ fs fp at m now₀ i₀ left₀ out now i left = left
 
 loop-holds : tie.Need-loop-holds Inv-loop μ-loop
 loop-holds c = search needs

@@ -1,13 +1,13 @@
-use Prim.Native.Nat.{_≤_, _-_}
+use Prim.Native.Nat.{_-_, _≤_}
 use borrow.Author.Needs.{needs}
 use Rattle.report_lines.proofs.dump.raw_lines.Statement.{statement}
 use Rattle.report_lines.proofs.dump.raw_lines.Tie as tie
 
 abbrev Inv-loop : tie.InvT-loop
-Inv-loop rt ri rp n i₀ t6 i = i ≤ n
+Inv-loop out₀ rt ri rp n now₀ i₀ t9 out now i = i ≤ n
 
 abbrev μ-loop : tie.MeasureT-loop
-μ-loop rt ri rp n i₀ t6 i = n - i
+μ-loop out₀ rt ri rp n now₀ i₀ t9 out now i = n - i
 
 loop-holds : tie.Need-loop-holds Inv-loop μ-loop
 loop-holds c = search needs
@@ -21,11 +21,11 @@ returns-2 c = search needs
 returns-3 : tie.Need-returns-3 Inv-loop μ-loop
 returns-3 c = search needs
 
-slice-aggregate-write-all : tie.Need-slice-aggregate-write-all Inv-loop μ-loop
-slice-aggregate-write-all c = search needs
+slice-aggregate-put : tie.Need-slice-aggregate-put Inv-loop μ-loop
+slice-aggregate-put c = search needs
 
-write-all-requires : tie.Need-write-all-requires Inv-loop μ-loop
-write-all-requires c κs = search needs
+put-requires : tie.Need-put-requires Inv-loop μ-loop
+put-requires c κs = search needs
 
 mul-bar-of : tie.Need-mul-bar-of Inv-loop μ-loop
 mul-bar-of c = search needs
@@ -48,8 +48,8 @@ shared-slice-copy-out-bar-of-3 c = search needs
 bar-of-requires : tie.Need-bar-of-requires Inv-loop μ-loop
 bar-of-requires c κs = search needs
 
-show-bar-requires : tie.Need-show-bar-requires Inv-loop μ-loop
-show-bar-requires c κs = search needs
+put-bar-requires : tie.Need-put-bar-requires Inv-loop μ-loop
+put-bar-requires c κs = search needs
 
 line-end-requires : tie.Need-line-end-requires Inv-loop μ-loop
 line-end-requires c κs = search needs
@@ -76,8 +76,8 @@ raw-lines-spec =
     returns
     returns-2
     returns-3
-    slice-aggregate-write-all
-    write-all-requires
+    slice-aggregate-put
+    put-requires
     mul-bar-of
     shared-slice-copy-out-bar-of
     mul-bar-of-2
@@ -85,7 +85,7 @@ raw-lines-spec =
     mul-bar-of-3
     shared-slice-copy-out-bar-of-3
     bar-of-requires
-    show-bar-requires
+    put-bar-requires
     line-end-requires
     add-i
     loop-less

@@ -4,10 +4,10 @@ use Rattle.report_lines.proofs.dump.stroke_bars.Statement.{statement}
 use Rattle.report_lines.proofs.dump.stroke_bars.Tie as tie
 
 abbrev Inv-loop : tie.InvT-loop
-Inv-loop rt raw st si sp sc se at n i₀ t11 i = i ≤ n
+Inv-loop out₀ rt raw st si sp sc se at n now₀ i₀ t11 out now i = i ≤ n
 
 abbrev μ-loop : tie.MeasureT-loop
-μ-loop rt raw st si sp sc se at n i₀ t11 i = n - i
+μ-loop out₀ rt raw st si sp sc se at n now₀ i₀ t11 out now i = n - i
 
 loop-holds : tie.Need-loop-holds Inv-loop μ-loop
 loop-holds c = search needs
@@ -21,11 +21,11 @@ sub-if2 c = search needs
 returns-2 : tie.Need-returns-2 Inv-loop μ-loop
 returns-2 c = search needs
 
-slice-aggregate-write-all : tie.Need-slice-aggregate-write-all Inv-loop μ-loop
-slice-aggregate-write-all c = search needs
+slice-aggregate-put : tie.Need-slice-aggregate-put Inv-loop μ-loop
+slice-aggregate-put c = search needs
 
-write-all-requires : tie.Need-write-all-requires Inv-loop μ-loop
-write-all-requires c κs = search needs
+put-requires : tie.Need-put-requires Inv-loop μ-loop
+put-requires c κs = search needs
 
 add-merged-line : tie.Need-add-merged-line Inv-loop μ-loop
 add-merged-line c = search needs
@@ -58,8 +58,8 @@ stroke-bars-spec =
     returns
     sub-if2
     returns-2
-    slice-aggregate-write-all
-    write-all-requires
+    slice-aggregate-put
+    put-requires
     add-merged-line
     is-inner-requires
     merged-line-requires

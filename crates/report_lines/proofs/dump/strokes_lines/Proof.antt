@@ -4,10 +4,10 @@ use Rattle.report_lines.proofs.dump.strokes_lines.Statement.{statement}
 use Rattle.report_lines.proofs.dump.strokes_lines.Tie as tie
 
 abbrev Inv-loop : tie.InvT-loop
-Inv-loop rt st si sp sc se fs fp stand bars fractals raw at₀ i₀ at i = i ≤ 65
+Inv-loop out₀ rt st si sp sc se fs fp stand bars fractals raw now₀ at₀ i₀ out now at i = i ≤ 65
 
 abbrev μ-loop : tie.MeasureT-loop
-μ-loop rt st si sp sc se fs fp stand bars fractals raw at₀ i₀ at i = 65 - i
+μ-loop out₀ rt st si sp sc se fs fp stand bars fractals raw now₀ at₀ i₀ out now at i = 65 - i
 
 loop-holds : tie.Need-loop-holds Inv-loop μ-loop
 loop-holds c = search needs

@@ -4,19 +4,19 @@ use Rattle.report_lines.proofs.dump.unfinished_lines.Statement.{stateme
 use Rattle.report_lines.proofs.dump.unfinished_lines.Tie as tie
 
 abbrev Inv-loop : tie.InvT-loop
-Inv-loop rt n ut ui up uc ue m i₀ t10 i = i ≤ m
+Inv-loop out₀ rt n ut ui up uc ue m now₀ i₀ t10 out now i = i ≤ m
 
 abbrev μ-loop : tie.MeasureT-loop
-μ-loop rt n ut ui up uc ue m i₀ t10 i = m - i
+μ-loop out₀ rt n ut ui up uc ue m now₀ i₀ t10 out now i = m - i
 
 loop-holds : tie.Need-loop-holds Inv-loop μ-loop
 loop-holds c = search needs
 
-slice-aggregate-write-all : tie.Need-slice-aggregate-write-all Inv-loop μ-loop
-slice-aggregate-write-all c = search needs
+slice-aggregate-put : tie.Need-slice-aggregate-put Inv-loop μ-loop
+slice-aggregate-put c = search needs
 
-write-all-requires : tie.Need-write-all-requires Inv-loop μ-loop
-write-all-requires c κs = search needs
+put-requires : tie.Need-put-requires Inv-loop μ-loop
+put-requires c κs = search needs
 
 merged-line-requires : tie.Need-merged-line-requires Inv-loop μ-loop
 merged-line-requires c κs = search needs
@@ -40,8 +40,8 @@ unfinished-lines-spec =
     Inv-loop
     μ-loop
     loop-holds
-    slice-aggregate-write-all
-    write-all-requires
+    slice-aggregate-put
+    put-requires
     merged-line-requires
     add-i
     loop-less

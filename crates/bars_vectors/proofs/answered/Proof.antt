@@ -1,11 +1,14 @@
 use lib.Seq.{length-take-le}
 use mathlib.Core.Path.{sym}
 use borrow.Author.Needs.{needs}
-use Rattle.bars_vectors.proofs.answer.Statement.{statement}
-use Rattle.bars_vectors.proofs.answer.Tie as tie
+use Rattle.bars_vectors.proofs.answered.Statement.{statement}
+use Rattle.bars_vectors.proofs.answered.Tie as tie
 
 asked-requires : tie.Need-asked-requires
 asked-requires c κs = search needs
+
+nothing-buffered-requires : tie.Need-nothing-buffered-requires
+nothing-buffered-requires c κs = search needs
 
 returns : tie.Need-returns
 returns c = search needs
@@ -25,11 +28,12 @@ reply-requires c κs = search needs
 returns-3 : tie.Need-returns-3
 returns-3 c = search needs
 
-pub answer-spec : {M : Type 1} → statement M
-answer-spec =
+pub answered-spec : {M : Type 1} → statement M
+answered-spec =
     tie.close
     (tie.spec
     asked-requires
+    nothing-buffered-requires
     returns
     bad-requires
     returns-2

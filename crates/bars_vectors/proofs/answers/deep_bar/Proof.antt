@@ -2,14 +2,14 @@ use Prim.Native.Nat.{_-_, _≤_}
 use mathlib.Core.Path.{_≡_}
 use lib.ListN.{length}
 use borrow.Author.Needs.{needs}
-use Rattle.bars_vectors.proofs.answers.deep.Statement.{statement}
-use Rattle.bars_vectors.proofs.answers.deep.Tie as tie
+use Rattle.bars_vectors.proofs.answers.deep_bar.Statement.{statement}
+use Rattle.bars_vectors.proofs.answers.deep_bar.Tie as tie
 
 abbrev Inv-loop : tie.InvT-loop
-Inv-loop k₀ i₀ t4 t5 k i = i ≤ 103
+Inv-loop k₀ i₀ k i = i ≤ 103
 
 abbrev μ-loop : tie.MeasureT-loop
-μ-loop k₀ i₀ t4 t5 k i = 103 - i
+μ-loop k₀ i₀ k i = 103 - i
 
 bar-12-9-requires : tie.Need-bar-12-9-requires Inv-loop μ-loop
 bar-12-9-requires c κs = search needs
@@ -38,26 +38,11 @@ loop-less c = search needs
 loop-again : tie.Need-loop-again Inv-loop μ-loop
 loop-again c = search needs
 
-slice-aggregate-write-all : tie.Need-slice-aggregate-write-all Inv-loop μ-loop
-slice-aggregate-write-all c = search needs
-
-write-all-requires : tie.Need-write-all-requires Inv-loop μ-loop
-write-all-requires c κs = search needs
-
-show-elements-requires : tie.Need-show-elements-requires Inv-loop μ-loop
-show-elements-requires c κs = search needs
-
-slice-aggregate-write-all-2 : tie.Need-slice-aggregate-write-all-2 Inv-loop μ-loop
-slice-aggregate-write-all-2 c = search needs
-
-write-all-requires-2 : tie.Need-write-all-requires-2 Inv-loop μ-loop
-write-all-requires-2 c κs = search needs
-
 returns : tie.Need-returns Inv-loop μ-loop
 returns c = search needs
 
-pub deep-spec : {M : Type 1} → statement M
-deep-spec =
+pub deep-bar-spec : {M : Type 1} → statement M
+deep-bar-spec =
     tie.close
     (tie.spec
     Inv-loop
@@ -71,9 +56,4 @@ deep-spec =
     add-i
     loop-less
     loop-again
-    slice-aggregate-write-all
-    write-all-requires
-    show-elements-requires
-    slice-aggregate-write-all-2
-    write-all-requires-2
     returns)
