@@ -1,5 +1,7 @@
 // One analyzer: from an accepted `n` to the next.
 ghost use Prim.Native.Nat.{_≤_};
+ghost use Rattle.from_fresh.specs.FromFresh.{FromFresh};
+ghost use Rattle.strokes.specs.Lent.{held};
 use crate::answers::turn;
 use crate::reading::Player;
 use crate::reading::finished;
@@ -29,7 +31,9 @@ fn play(
     se: &mut [[i64; 101]],
     fs: &mut [[i64; 6]],
     fp: &mut [[f64; 18]],
-) -> Player {
+) -> Player
+    requires { ⌜ FromFresh fresh (held rt ri rp ut ui up uc ue st si sp sc se fs fp) ⌝ }
+{
     let mut stand = fresh;
     let mut now = p;
     // A proved loop has to end, and nothing says that the input does. So it counts down from a number that no run uses up.

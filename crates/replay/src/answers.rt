@@ -1,9 +1,10 @@
 // The answer to a call.
+ghost use Rattle.from_fresh.specs.FromFresh.{FromFresh};
+ghost use Rattle.strokes.specs.Lent.{held, after};
 use crate::calls::Call;
 use crate::reading::Player;
 use bar_lines::space;
-use feed::Czsc;
-use feed::Updated;
+use feed::FeedAnswer;
 use lines::Buffer;
 use lines::Buffered;
 use lines::put;
@@ -71,7 +72,7 @@ fn started(out: &mut Buffer, p: Player, k: u64) -> Player {
 }
 
 // What a feed answered: `ok MADE BROKEN SHED`, or `no K`.
-fn fed_line(out: &mut Buffer, o: Buffered, r: Updated) -> Buffered {
+fn fed_line(out: &mut Buffer, o: Buffered, r: FeedAnswer) -> Buffered {
     if r.failed > 0 {
         return refusal(out, o, r.failed);
     }
@@ -84,7 +85,7 @@ fn fed_line(out: &mut Buffer, o: Buffered, r: Updated) -> Buffered {
     line_end(out, o)
 }
 
-fn fed(out: &mut Buffer, p: Player, r: Updated) -> Player {
+fn fed(out: &mut Buffer, p: Player, r: FeedAnswer) -> Player {
     let o = p.output;
     p.said(fed_line(out, o, r))
 }
@@ -246,7 +247,7 @@ pub struct Played {
     pub stand: Stand,
 }
 
-// The answer to the player's call.
+// The answer to the player's call. The stand and the stores come from a fresh analyzer by feeds, and so do those that it leaves: of question 4 a feed then asks only the clause that can fail.
 pub fn turn(
     out: &mut Buffer,
     p: Player,
@@ -266,12 +267,15 @@ pub fn turn(
     se: &mut [[i64; 101]],
     fs: &mut [[i64; 6]],
     fp: &mut [[f64; 18]],
-) -> Played {
+) -> Played
+    requires { ⌜ FromFresh stand (held rt ri rp ut ui up uc ue st si sp sc se fs fp) ⌝ }
+    ensures { λ r. ⌜ FromFresh (r .stand) (after rt ri rp ut ui up uc ue st si sp sc se fs fp) ⌝ }
+{
     if is_feed(p) {
         let call = p.call;
         let bar = call.bar;
-        let czsc = Czsc { stand };
-        let r = czsc.update_bar(
+        let r = from_fresh::update_from_fresh(
+            stand,
             rt,
             ri,
             rp,
@@ -288,9 +292,9 @@ pub fn turn(
             fs,
             fp,
             bar,
+            0,
         );
-        let after = r.czsc;
-        let next = after.stand;
+        let next = r.stand;
         let player = fed(out, p, r);
         return Played {
             player,

@@ -1,6 +1,9 @@
 use native.Mathlib.Omega.{arith}
 use mathlib.Core.Path.{_≡_, refl, _∙_}
 use lib.ListN.{length}
+use Rattle.stores.specs.Stores.{rawStore, mergedStore}
+use Rattle.strokes.specs.Lent.{storesOf, fractalStore}
+use Rattle.from_fresh.specs.FromFresh.{FromFresh}
 use borrow.Author.Needs.{needs}
 use Rattle.replay.proofs.analyzers.play.Statement.{statement}
 use Rattle.replay.proofs.analyzers.play.Tie as tie
@@ -24,12 +27,13 @@ Inv-loop out₀ bytes₀ line₀ rt₀ ri₀ rp₀ ut₀ ui₀ up₀ uc₀ ue₀
     × (length se ≡ length se₀)
     × (length fs ≡ length fs₀)
     × (length fp ≡ length fp₀)
+    × FromFresh stand (storesOf (rawStore rt ri rp) (mergedStore ut ui up uc ue) (mergedStore st si sp sc se) (fractalStore fs fp))
 
 abbrev μ-loop : tie.MeasureT-loop
 μ-loop out₀ bytes₀ line₀ rt₀ ri₀ rp₀ ut₀ ui₀ up₀ uc₀ ue₀ st₀ si₀ sp₀ sc₀ se₀ fs₀ fp₀ stand₀ now₀ turns₀ out bytes line rt ri rp ut ui up uc ue st si sp sc se fs fp stand now turns = turns
 
 loop-holds : tie.Need-loop-holds Inv-loop μ-loop
-loop-holds c = (refl, refl, refl, refl, refl, refl, refl, refl, refl, refl, refl, refl, refl, refl, refl, refl, refl)
+loop-holds c = (refl, refl, refl, refl, refl, refl, refl, refl, refl, refl, refl, refl, refl, refl, refl, refl, refl, c .before .before .before .before .pre)
 
 sub-turns : tie.Need-sub-turns Inv-loop μ-loop
 sub-turns c = search needs
@@ -38,7 +42,7 @@ next-call-requires : tie.Need-next-call-requires Inv-loop μ-loop
 next-call-requires c κs = search needs
 
 turn-requires : tie.Need-turn-requires Inv-loop μ-loop
-turn-requires c κs = search needs
+turn-requires c κs = c .before .before .before .before .before .before .before .before .before .before .before .before .before .before .before .before .before .before .before .before .before .before .before .before .before .before .loop .inv .17
 
 loop-less : tie.Need-loop-less Inv-loop μ-loop
 loop-less c = let h = c .before .before .before .before .before .before .before .before .before .before .before .before .before .before .before .before .before .before .before .before .before .before .before .before .before .before .before .before .before .before .before .before .before .before .before .before .before .before .before .before .before .before .before .before .before .loop-test .taken in omega arith
@@ -62,6 +66,7 @@ loop-again c = (
   (c .before .before .before .before .se .given) ∙ (c .before .before .before .before .before .before .before .before .before .before .before .before .before .before .before .before .before .before .before .before .before .before .before .before .before .before .before .before .before .before .before .before .before .before .before .before .before .before .before .before .before .before .before .before .before .before .loop .inv .14),
   (c .before .before .before .fs .given) ∙ (c .before .before .before .before .before .before .before .before .before .before .before .before .before .before .before .before .before .before .before .before .before .before .before .before .before .before .before .before .before .before .before .before .before .before .before .before .before .before .before .before .before .before .before .before .before .before .loop .inv .15),
   (c .before .before .fp .given) ∙ (c .before .before .before .before .before .before .before .before .before .before .before .before .before .before .before .before .before .before .before .before .before .before .before .before .before .before .before .before .before .before .before .before .before .before .before .before .before .before .before .before .before .before .before .before .before .before .loop .inv .16),
+  c .before .before .before .before .before .before .before .before .before .before .before .before .before .before .before .before .before .before .before .turn .ensures,
 )
 
 same-length : tie.Need-same-length Inv-loop μ-loop

@@ -1,4 +1,5 @@
 use mathlib.Core.Path.{refl}
+use Rattle.replay.proofs.NotRefused.{not-refused}
 use borrow.Author.Needs.{needs}
 use Rattle.replay.proofs.analyzers.start.Statement.{statement}
 use Rattle.replay.proofs.analyzers.start.Tie as tie
@@ -61,7 +62,7 @@ begun-requires : tie.Need-begun-requires
 begun-requires c κs = search needs
 
 play-requires : tie.Need-play-requires
-play-requires c κs = search needs
+play-requires c κs = not-refused _ _ _ _ (c .before .before .before .before .before .before .before .before .before .before .before .before .before .before .before .before .before .before .before .before .before .fresh .ensures) (c .before .before .before .before .before .before .before .before .before .before .before .before .before .before .before .before .before .before .before .if1 .left)
 
 same-length-16 : tie.Need-same-length-16
 same-length-16 c = c .before .before .before .before .before .before .before .before .before .before .before .before .before .before .before .before .before .before .before .before .bytes .given
