@@ -338,6 +338,22 @@ fn stroke_lines(
     stroke_bars(out, o, rt, raw, st, si, sp, sc, se, at, n)
 }
 
+// A count of the stand.
+fn wide(count: u32) -> usize {
+    count as usize
+}
+
+// The place behind a stroke of n bars at place `at`, which lie in the first `len` places; otherwise the end.
+fn behind(at: usize, n: usize, len: usize) -> usize {
+    if len < n {
+        return len;
+    }
+    if len - n < at {
+        return len;
+    }
+    at + n
+}
+
 // Every kept stroke, oldest first.
 fn strokes_lines(
     out: &mut Buffer,
@@ -362,30 +378,16 @@ fn strokes_lines(
         if stand.strokes <= i {
             return now;
         }
-        let n = bars[i] as usize;
-        now = stroke_lines(
-            out,
-            now,
-            rt,
-            raw,
-            st,
-            si,
-            sp,
-            sc,
-            se,
-            fs,
-            fp,
-            at,
-            n,
-            fractals[i] as usize,
-        );
+        let n = wide(bars[i]);
+        let m = wide(fractals[i]);
+        now = stroke_lines(out, now, rt, raw, st, si, sp, sc, se, fs, fp, at, n, m);
         if st.len() < n {
             return now;
         }
         if st.len() - n < at {
             return now;
         }
-        at += n;
+        at = behind(at, n, st.len());
         i += 1;
     }
     now

@@ -15,23 +15,23 @@ loop-holds c = search needs
 returns : tie.Need-returns Inv-loop μ-loop
 returns c = search needs
 
-mul-n : tie.Need-mul-n Inv-loop μ-loop
-mul-n c = search needs
+mul-wide : tie.Need-mul-wide Inv-loop μ-loop
+mul-wide c = search needs
 
-array-read-n : tie.Need-array-read-n Inv-loop μ-loop
-array-read-n c = search needs
+array-read-wide : tie.Need-array-read-wide Inv-loop μ-loop
+array-read-wide c = search needs
 
-cast-n : tie.Need-cast-n Inv-loop μ-loop
-cast-n c = search needs
+wide-requires : tie.Need-wide-requires Inv-loop μ-loop
+wide-requires c κs = search needs
 
-mul-stroke-lines : tie.Need-mul-stroke-lines Inv-loop μ-loop
-mul-stroke-lines c = search needs
+mul-wide-2 : tie.Need-mul-wide-2 Inv-loop μ-loop
+mul-wide-2 c = search needs
 
-array-read-stroke-lines : tie.Need-array-read-stroke-lines Inv-loop μ-loop
-array-read-stroke-lines c = search needs
+array-read-wide-2 : tie.Need-array-read-wide-2 Inv-loop μ-loop
+array-read-wide-2 c = search needs
 
-cast-stroke-lines : tie.Need-cast-stroke-lines Inv-loop μ-loop
-cast-stroke-lines c = search needs
+wide-requires-2 : tie.Need-wide-requires-2 Inv-loop μ-loop
+wide-requires-2 c κs = search needs
 
 stroke-lines-requires : tie.Need-stroke-lines-requires Inv-loop μ-loop
 stroke-lines-requires c κs = search needs
@@ -45,8 +45,8 @@ sub-if3 c = search needs
 returns-3 : tie.Need-returns-3 Inv-loop μ-loop
 returns-3 c = search needs
 
-add-at : tie.Need-add-at Inv-loop μ-loop
-add-at c = search needs
+behind-requires : tie.Need-behind-requires Inv-loop μ-loop
+behind-requires c κs = search needs
 
 add-i : tie.Need-add-i Inv-loop μ-loop
 add-i c = search needs
@@ -68,15 +68,17 @@ strokes-lines-spec =
     μ-loop
     loop-holds
     returns
-    mul-n
-    array-read-n cast-n
-    mul-stroke-lines
-    array-read-stroke-lines cast-stroke-lines
+    mul-wide
+    array-read-wide
+    wide-requires
+    mul-wide-2
+    array-read-wide-2
+    wide-requires-2
     stroke-lines-requires
     returns-2
     sub-if3
     returns-3
-    add-at
+    behind-requires
     add-i
     loop-less
     loop-again
