@@ -221,13 +221,14 @@ module _ (s v : Stand) (m : RawStore) (w : MergedStore) (es : List ℤ) (b : Bar
     last-fits h = can-merge (mergeIn (keptUnfinished v w) b) (rw at-last h)
 
     -- s is itself the stand s₀ without its last unfinished bar
-    pub going-done : (s₀ r : Stand) (n : ℕ) (x : MergedStore) (l : List Merged) → s ≡ withUnfinished s₀ n → answer ≡ l → HasUnfinished v r x (mergeIn (keptUnfinished v w) b) → HasUnfinished s₀ r x l
+    pub going-done : (s₀ : Stand) (r n : ℕ) (x : MergedStore) (l : List Merged) → s ≡ withUnfinished s₀ n → answer ≡ l → HasUnfinished v (withUnfinished v r) x (mergeIn (keptUnfinished v w) b)
+        → HasUnfinished s₀ (withUnfinished s₀ r) x l
     unfolding withUnfinished
     going-done s₀ r n x l e q h =
         let k = at-last ∙ q in
         record {
           bars = h .bars ∙ k;
-          stand = h .stand ∙ (λ j. withUnfinished ((g .stand) j) (length (k j))) ∙ ap (λ (y : Stand). withUnfinished y (length l)) e;
+          stand = ap (withUnfinished s₀) (ap (λ (y : Stand). y .unfinished) (h .stand) ∙ ap length k);
           sized = subst (λ (y : Stand). SizedMerged x (y .rooms .unfinished)) e (going-sized x (h .sized));
         }
 

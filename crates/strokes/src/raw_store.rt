@@ -7,7 +7,7 @@ ghost use lib.Signed.{ltZ};
 ghost use Rattle.bars.specs.Lists.{skipWhile};
 ghost use Rattle.stores.specs.Code.StoreRows.{SizedRaw, placeOf};
 ghost use Rattle.machine.specs.Feed.{rawWith};
-ghost use Rattle.strokes.specs.Code.BarSteps.{HasRaw, keptRaw, rawOnly};
+ghost use Rattle.strokes.specs.Code.BarSteps.{HasRaw, keptRaw, withRaw, rawOnly};
 ghost use Rattle.stores.specs.Lent.{rawHeld, rawBefore, rawAfter};
 use crate::Stand;
 use bars::Bar;
@@ -38,35 +38,31 @@ impl Stand {
         rp: &mut [[f64; 6]],
         later: bool,
         b: Bar,
-    ) -> Stand
+    ) -> usize
         requires { ⌜ SizedRaw (rawHeld rt ri rp) (self .rooms .raw) ⌝ ∗ ⌜ self .raw ≤ self .rooms .raw ⌝ ∗ ⌜ (later ≡ true → self .raw < self .rooms .raw) ⌝ ∗ ⌜ (later ≡ false → 1 ≤ self .raw) ⌝ }
-        ensures { λ r. ⌜ HasRaw self r (rawAfter rt ri rp) (rawWith later (rawOnly (keptRaw self (rawBefore rt ri rp))) b) ⌝ }
+        ensures { λ r. ⌜ HasRaw self (withRaw self r) (rawAfter rt ri rp) (rawWith later (rawOnly (keptRaw self (rawBefore rt ri rp))) b) ⌝ }
     {
         let n = self.raw;
-        let mut stand = self;
         if later {
             stores::write_bar(rt, ri, rp, n, b);
-            stand.raw = n + 1;
-            return stand;
+            return n + 1;
         }
         stores::write_bar(rt, ri, rp, n - 1, b);
-        stand
+        n
     }
 
     // The raw bars earlier than t are dropped, and the others begin the store. Mostly there are none, and nothing is moved.
-    pub fn drop_raw(self, rt: &mut [i64], ri: &mut [i32], rp: &mut [[f64; 6]], t: i64) -> Stand
+    pub fn drop_raw(self, rt: &mut [i64], ri: &mut [i32], rp: &mut [[f64; 6]], t: i64) -> usize
         requires { ⌜ SizedRaw (rawHeld rt ri rp) (self .rooms .raw) ⌝ ∗ ⌜ self .raw ≤ self .rooms .raw ⌝ }
-        ensures { λ r. ⌜ HasRaw self r (rawAfter rt ri rp) (skipWhile (λ k. ltZ (k .time) t) (keptRaw self (rawBefore rt ri rp))) ⌝ }
+        ensures { λ r. ⌜ HasRaw self (withRaw self r) (rawAfter rt ri rp) (skipWhile (λ k. ltZ (k .time) t) (keptRaw self (rawBefore rt ri rp))) ⌝ }
     {
         let n = self.raw;
         let k = count_before(rt, n, t);
         if k == 0 {
-            return self;
+            return n;
         }
         let left = n - k;
         stores::move_bars_down(rt, ri, rp, k, 0, left);
-        let mut stand = self;
-        stand.raw = left;
-        stand
+        left
     }
 }

@@ -7,7 +7,7 @@ ghost use lib.Dec.{T};
 ghost use Rattle.stores.specs.Code.StoreRows.{SizedMerged, RoomMerged, CopiedInUse};
 ghost use Rattle.bars.specs.Merging.{mergeIn, mergeAll, atTimes};
 ghost use Rattle.machine.specs.Break.{joined};
-ghost use Rattle.strokes.specs.Code.BarSteps.{HasUnfinished, CanMerge, RisingRaw, LastHas, CanJoin, mergedAgain, keptRaw, keptUnfinished, withoutLast, storedStroke};
+ghost use Rattle.strokes.specs.Code.BarSteps.{HasUnfinished, CanMerge, RisingRaw, LastHas, CanJoin, mergedAgain, keptRaw, keptUnfinished, withUnfinished, withoutLast, storedStroke};
 ghost use Rattle.strokes.specs.StateRead.{elementsSized};
 ghost use Rattle.strokes.specs.Code.ElementCounts.{StaySized};
 ghost use Rattle.stores.specs.Lent.{rawHeld, rawBefore, mergedHeld, mergedBefore, mergedAfter};
@@ -98,16 +98,14 @@ impl Stand {
         uc: &mut [usize],
         ue: &mut [[i64; 101]],
         k: usize,
-    ) -> Stand
+    ) -> usize
         requires { ⌜ SizedMerged (mergedHeld ut ui up uc ue) (self .rooms .unfinished) ⌝ ∗ ⌜ self .unfinished ≤ self .rooms .unfinished ⌝ ∗ ⌜ k ≤ self .unfinished ⌝ }
-        ensures { λ r. ⌜ (HasUnfinished self r (mergedAfter ut ui up uc ue) (drop k (keptUnfinished self (mergedBefore ut ui up uc ue)))) × (StaySized (self .unfinished) (mergedBefore ut ui up uc ue) (r .unfinished) (mergedAfter ut ui up uc ue)) ⌝ }
+        ensures { λ r. ⌜ (HasUnfinished self (withUnfinished self r) (mergedAfter ut ui up uc ue) (drop k (keptUnfinished self (mergedBefore ut ui up uc ue)))) × (StaySized (self .unfinished) (mergedBefore ut ui up uc ue) r (mergedAfter ut ui up uc ue)) ⌝ }
     {
         let n = self.unfinished;
         let left = n - k;
         stores::move_new_bars_down(ut, ui, up, uc, ue, k, 0, left);
-        let mut stand = self;
-        stand.unfinished = left;
-        stand
+        left
     }
 
     // A bar that passed its questions is merged into the unfinished bars. Where it is merged with the last of them, that bar's elements stay
@@ -120,17 +118,15 @@ impl Stand {
         uc: &mut [usize],
         ue: &mut [[i64; 101]],
         b: Bar,
-    ) -> Stand
+    ) -> usize
         requires { ⌜ CanMerge self (mergedHeld ut ui up uc ue) (mergeIn (keptUnfinished self (mergedHeld ut ui up uc ue)) b) ⌝ }
-        ensures { λ r. ⌜ (HasUnfinished self r (mergedAfter ut ui up uc ue) (mergeIn (keptUnfinished self (mergedBefore ut ui up uc ue)) b)) × (StaySized (self .unfinished) (mergedBefore ut ui up uc ue) (r .unfinished) (mergedAfter ut ui up uc ue)) ⌝ }
+        ensures { λ r. ⌜ (HasUnfinished self (withUnfinished self r) (mergedAfter ut ui up uc ue) (mergeIn (keptUnfinished self (mergedBefore ut ui up uc ue)) b)) × (StaySized (self .unfinished) (mergedBefore ut ui up uc ue) r (mergedAfter ut ui up uc ue)) ⌝ }
     {
         let n = self.unfinished;
         let time = b.time;
-        let mut stand = self;
         if n < 2 {
             stores::write_with_element(ut, ui, up, uc, ue, n, b, 0, time);
-            stand.unfinished = n + 1;
-            return stand;
+            return n + 1;
         }
         let last = n - 1;
         let k1 = stores::read_bar(ut, ui, up, n - 2);
@@ -139,11 +135,10 @@ impl Stand {
         if found.merged {
             let count = uc[last];
             stores::write_with_element(ut, ui, up, uc, ue, last, found.bar, count, time);
-            return stand;
+            return n;
         }
         stores::write_with_element(ut, ui, up, uc, ue, n, b, 0, time);
-        stand.unfinished = n + 1;
-        stand
+        n + 1
     }
 
     // The raw bar of time t, if one is kept, is merged into the unfinished bars.
@@ -158,20 +153,21 @@ impl Stand {
         uc: &mut [usize],
         ue: &mut [[i64; 101]],
         t: i64,
-    ) -> Stand
+    ) -> usize
         requires { ⌜ RisingRaw self (rawHeld rt ri rp) ⌝ ∗ ⌜ CanMerge self (mergedHeld ut ui up uc ue) (mergeAll (keptUnfinished self (mergedHeld ut ui up uc ue)) (atTimes (keptRaw self (rawHeld rt ri rp)) (t ∷ []))) ⌝ }
-        ensures { λ r. ⌜ (HasUnfinished self r (mergedAfter ut ui up uc ue) (mergeAll (keptUnfinished self (mergedBefore ut ui up uc ue)) (atTimes (keptRaw self (rawBefore rt ri rp)) (t ∷ [])))) × (StaySized (self .unfinished) (mergedBefore ut ui up uc ue) (r .unfinished) (mergedAfter ut ui up uc ue)) ⌝ }
+        ensures { λ r. ⌜ (HasUnfinished self (withUnfinished self r) (mergedAfter ut ui up uc ue) (mergeAll (keptUnfinished self (mergedBefore ut ui up uc ue)) (atTimes (keptRaw self (rawBefore rt ri rp)) (t ∷ [])))) × (StaySized (self .unfinished) (mergedBefore ut ui up uc ue) r (mergedAfter ut ui up uc ue)) ⌝ }
     {
         let n = self.raw;
+        let m = self.unfinished;
         let p = stores::find_time(rt, n, t);
         if p < n {
             if t < rt[p] {
-                return self;
+                return m;
             }
             let b = stores::read_bar(rt, ri, rp, p);
             return self.put_merged(ut, ui, up, uc, ue, b);
         }
-        self
+        m
     }
 
     // A bar with the last time: the last unfinished bar is taken off, and its elements but the last go through merging again, and then b.
@@ -187,9 +183,9 @@ impl Stand {
         uc: &mut [usize],
         ue: &mut [[i64; 101]],
         b: Bar,
-    ) -> Stand
+    ) -> usize
         requires { ⌜ RisingRaw self (rawHeld rt ri rp) ⌝ ∗ ⌜ LastHas self (mergedHeld ut ui up uc ue) ⌝ ∗ ⌜ CanMerge self (mergedHeld ut ui up uc ue) (mergedAgain (keptRaw self (rawHeld rt ri rp)) (keptUnfinished self (mergedHeld ut ui up uc ue)) b) ⌝ }
-        ensures { λ r. ⌜ (HasUnfinished self r (mergedAfter ut ui up uc ue) (mergedAgain (keptRaw self (rawBefore rt ri rp)) (keptUnfinished self (mergedBefore ut ui up uc ue)) b)) × (StaySized (self .unfinished) (mergedBefore ut ui up uc ue) (r .unfinished) (mergedAfter ut ui up uc ue)) ⌝ }
+        ensures { λ r. ⌜ (HasUnfinished self (withUnfinished self r) (mergedAfter ut ui up uc ue) (mergedAgain (keptRaw self (rawBefore rt ri rp)) (keptUnfinished self (mergedBefore ut ui up uc ue)) b)) × (StaySized (self .unfinished) (mergedBefore ut ui up uc ue) r (mergedAfter ut ui up uc ue)) ⌝ }
     {
         let n = self.unfinished;
         let at = n - 1;
@@ -201,7 +197,8 @@ impl Stand {
         let mut i: usize = 0;
         while i < old {
             let t = elements[i];
-            stand = stand.put_named(rt, ri, rp, ut, ui, up, uc, ue, t);
+            let m = stand.put_named(rt, ri, rp, ut, ui, up, uc, ue, t);
+            stand.unfinished = m;
             i += 1;
         }
         stand.put_merged(ut, ui, up, uc, ue, b)
@@ -223,12 +220,11 @@ impl Stand {
         se: &[[i64; 101]],
         at: usize,
         rows: usize,
-    ) -> Stand
+    ) -> usize
         requires { ⌜ CanJoin self (mergedHeld ut ui up uc ue) (mergedHeld st si sp sc se) at rows ⌝ }
-        ensures { λ r. ⌜ (HasUnfinished (withoutLast self) r (mergedAfter ut ui up uc ue) (joined (storedStroke (mergedBefore st si sp sc se) at rows) (keptUnfinished self (mergedBefore ut ui up uc ue)))) × (T (elementsSized (at + rows) (mergedBefore st si sp sc se)) → StaySized (self .unfinished) (mergedBefore ut ui up uc ue) (r .unfinished) (mergedAfter ut ui up uc ue)) ⌝ }
+        ensures { λ r. ⌜ (HasUnfinished (withoutLast self) (withUnfinished (withoutLast self) r) (mergedAfter ut ui up uc ue) (joined (storedStroke (mergedBefore st si sp sc se) at rows) (keptUnfinished self (mergedBefore ut ui up uc ue)))) × (T (elementsSized (at + rows) (mergedBefore st si sp sc se)) → StaySized (self .unfinished) (mergedBefore ut ui up uc ue) r (mergedAfter ut ui up uc ue)) ⌝ }
     {
         let n = self.unfinished;
-        let kept = self.strokes - 1;
         let front = rows - 2;
         let place = at + front;
         let t = st[place];
@@ -237,9 +233,6 @@ impl Stand {
         let all = front + left;
         bring(ut, ui, up, uc, ue, j, front, left);
         stores::join_new_bars(st, si, sp, sc, se, at, ut, ui, up, uc, ue, 0, front);
-        let mut stand = self;
-        stand.unfinished = all;
-        stand.strokes = kept;
-        stand
+        all
     }
 }

@@ -324,10 +324,14 @@ module _ (s : Stand) (u k : MergedStore) (f : FractalStore) (p : Plan) (h : CanM
     left-by true t r u' q stay = left-broken r u' t q stay
     left-by false t r u' q stay = left-kept r u' t q stay
 
-    pub has-left : (r : Stand) (u' : MergedStore)
-        → HasUnfinished (leftStand (p .broken) v) r u' (leftBars (p .broken) v k' (drop (restOf p) (keptUnfinished v u)))
-        → (T (elementsSized (total (barCounts v)) k') → StaySized (v .unfinished) u (r .unfinished) u') → HasLeft s u k f r u' k' f'
-    has-left r u' q stay = left-by (p .broken) refl r u' q stay
+    -- n unfinished bars are left
+    pub has-left : (n : ℕ) (r : Stand) (u' : MergedStore) → r ≡ withUnfinished (leftStand (p .broken) v) n
+        → HasUnfinished (leftStand (p .broken) v) (withUnfinished (leftStand (p .broken) v) n) u' (leftBars (p .broken) v k' (drop (restOf p) (keptUnfinished v u)))
+        → (T (elementsSized (total (barCounts v)) k') → StaySized (v .unfinished) u n u') → HasLeft s u k f r u' k' f'
+    unfolding withUnfinished
+    has-left n r u' e q stay =
+        let x = withUnfinished (leftStand (p .broken) v) n in
+        subst (λ (y : Stand). HasLeft s u k f y u' k' f') (sym e) (left-by (p .broken) refl x u' q stay)
 
   -- ---- what is kept then
 

@@ -112,24 +112,26 @@ module _ (s v : Stand) (w k : MergedStore) (l : List Merged) (h : HasUnfinished 
         breaks = subst (λ (x : List Merged). CanBreak v k x) (sym (h .bars)) (subst (λ (x : Stand). CanBreak x k l) (sym (h .stand)) (same-breaks g));
       }
 
-  after-last : (r : Stand) (w' : MergedStore) (t : Bool) → t ≡ true
-      → HasUnfinished (withoutLast (withUnfinished s (length l))) r w' (joined (storedStroke k (lastPlace (withUnfinished s (length l))) (lastBars (withUnfinished s (length l)))) l)
-      → HasUnfinished (leftStand t s) r w' (leftBars t s k l)
+  after-last : (r : ℕ) (w' : MergedStore) (t : Bool) → t ≡ true
+      → HasUnfinished (withoutLast (withUnfinished s (length l))) (withUnfinished (withoutLast (withUnfinished s (length l))) r) w'
+      (joined (storedStroke k (lastPlace (withUnfinished s (length l))) (lastBars (withUnfinished s (length l)))) l)
+      → HasUnfinished (leftStand t s) (withUnfinished (leftStand t s) r) w' (leftBars t s k l)
   unfolding withUnfinished withoutLast lastPlace lastBars leftStand leftBars
   after-last r w' t e g =
-      subst (λ (x : Bool). HasUnfinished (leftStand x s) r w' (leftBars x s k l)) (sym e) (record { bars = g .bars; stand = g .stand; sized = g .sized })
+      subst (λ (x : Bool). HasUnfinished (leftStand x s) (withUnfinished (leftStand x s) r) w' (leftBars x s k l)) (sym e) (record { bars = g .bars; stand = g .stand; sized = g .sized })
 
-  pub left-joined : (r : Stand) (w' : MergedStore) (t : Bool) → t ≡ true
-      → HasUnfinished (withoutLast v) r w' (joined (storedStroke k (lastPlace v) (lastBars v)) (keptUnfinished v w))
-      → HasUnfinished (leftStand t s) r w' (leftBars t s k l)
+  pub left-joined : (r : ℕ) (w' : MergedStore) (t : Bool) → t ≡ true
+      → HasUnfinished (withoutLast v) (withUnfinished (withoutLast v) r) w' (joined (storedStroke k (lastPlace v) (lastBars v)) (keptUnfinished v w))
+      → HasUnfinished (leftStand t s) (withUnfinished (leftStand t s) r) w' (leftBars t s k l)
   left-joined r w' t e g =
       after-last r w' t e
-      (subst (λ (x : Stand). HasUnfinished (withoutLast x) r w' (joined (storedStroke k (lastPlace x) (lastBars x)) l)) (h .stand)
-      (subst (λ (x : List Merged). HasUnfinished (withoutLast v) r w' (joined (storedStroke k (lastPlace v) (lastBars v)) x)) (h .bars) g))
+      (subst (λ (x : Stand). HasUnfinished (withoutLast x) (withUnfinished (withoutLast x) r) w' (joined (storedStroke k (lastPlace x) (lastBars x)) l)) (h .stand)
+      (subst (λ (x : List Merged). HasUnfinished (withoutLast v) (withUnfinished (withoutLast v) r) w' (joined (storedStroke k (lastPlace v) (lastBars v)) x)) (h .bars) g))
 
-  pub left-as-is : (t : Bool) → t ≡ false → HasUnfinished (leftStand t s) v w (leftBars t s k l)
+  pub left-as-is : (t : Bool) (r : ℕ) → v ≡ withUnfinished s r → t ≡ false → HasUnfinished (leftStand t s) (withUnfinished (leftStand t s) r) w (leftBars t s k l)
   unfolding leftStand leftBars
-  left-as-is t e = subst (λ (x : Bool). HasUnfinished (leftStand x s) v w (leftBars x s k l)) (sym e) h
+  left-as-is t r q e =
+      subst (λ (x : Bool). HasUnfinished (leftStand x s) (withUnfinished (leftStand x s) r) w (leftBars x s k l)) (sym e) (subst (λ (x : Stand). HasUnfinished s x w l) q h)
 
 -- ---- the raw bars that are kept
 

@@ -35,13 +35,16 @@ pub fn write(
     requires { ⌜ CanWrite stand (held rt ri rp ut ui up uc ue st si sp sc se fs fp) b later plan ⌝ }
     ensures { λ r. ⌜ IsWritten stand (before rt ri rp ut ui up uc ue st si sp sc se fs fp) b r (after rt ri rp ut ui up uc ue st si sp sc se fs fp) ⌝ }
 {
-    let put = put_bar(stand, rt, ri, rp, ut, ui, up, uc, ue, later, b);
+    let n = put_bar(stand, rt, ri, rp, ut, ui, up, uc, ue, later, b);
+    let mut put = stand;
+    put.unfinished = n;
     let moved = update_bi(put, ut, ui, up, uc, ue, st, si, sp, sc, se, fs, fp, plan);
     let made = moved.made;
     let broken = moved.broken;
     let shed = moved.shed;
-    let left = moved.stand;
-    let kept = keep_raw(left, rt, ri, rp, st, later, b);
+    let mut kept = moved.stand;
+    let raw = keep_raw(kept, rt, ri, rp, st, later, b);
+    kept.raw = raw;
     Wrote {
         stand: kept,
         made,

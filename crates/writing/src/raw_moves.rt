@@ -5,7 +5,7 @@ ghost use Prim.Native.Nat.{_<_, _≤_};
 ghost use lib.ListN.{length, getD};
 ghost use lib.IntN.{pos};
 ghost use Rattle.machine.specs.Feed.{rawWith};
-ghost use Rattle.strokes.specs.Code.BarSteps.{HasRaw, keptRaw, rawOnly};
+ghost use Rattle.strokes.specs.Code.BarSteps.{HasRaw, keptRaw, withRaw, rawOnly};
 ghost use Rattle.writing.specs.Code.WriteSteps.{CanKeep, dropEarlier};
 ghost use Rattle.stores.specs.Lent.{rawHeld, rawBefore, rawAfter};
 use bars::Bar;
@@ -20,15 +20,17 @@ pub fn keep_raw(
     st: &[i64],
     later: bool,
     b: Bar,
-) -> Stand
+) -> usize
     requires { ⌜ CanKeep stand (rawHeld rt ri rp) (length (now st)) later ⌝ }
-    ensures { λ r. ⌜ HasRaw stand r (rawAfter rt ri rp) (dropEarlier (stand .strokes) (getD (now (st .entry)) 0 (pos 0)) (rawWith later (rawOnly (keptRaw stand (rawBefore rt ri rp))) b)) ⌝ }
+    ensures { λ r. ⌜ HasRaw stand (withRaw stand r) (rawAfter rt ri rp) (dropEarlier (stand .strokes) (getD (now (st .entry)) 0 (pos 0)) (rawWith later (rawOnly (keptRaw stand (rawBefore rt ri rp))) b)) ⌝ }
 {
     let n = stand.strokes;
-    let put = stand.put_raw(rt, ri, rp, later, b);
+    let raw = stand.put_raw(rt, ri, rp, later, b);
     if n == 0 {
-        return put;
+        return raw;
     }
     let t = st[0];
+    let mut put = stand;
+    put.raw = raw;
     put.drop_raw(rt, ri, rp, t)
 }

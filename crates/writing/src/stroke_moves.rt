@@ -1,9 +1,11 @@
 // What a feed writes to the stroke store.
 ghost use mathlib.Core.Path.{_≡_};
-ghost use Prim.Native.Nat.{_+_};
+ghost use mathlib.Core.Bool.{true};
+ghost use Prim.Native.Nat.{_+_, _≤_};
 ghost use Rattle.machine.specs.Feed.{shedCount};
 ghost use Rattle.strokes.specs.Lent.{fractalsHeld, fractalsBefore, fractalsAfter};
-ghost use Rattle.writing.specs.Code.WriteSteps.{CanMake, MadeWhere};
+ghost use Rattle.strokes.specs.Code.BarSteps.{withUnfinished};
+ghost use Rattle.writing.specs.Code.WriteSteps.{CanMake, MadeWhere, leftStand};
 ghost use Rattle.writing.specs.Code.Written.{CanMove, HasLeft, HasMoved};
 ghost use Rattle.stores.specs.Lent.{mergedHeld, mergedBefore, mergedAfter};
 use crate::Wrote;
@@ -52,6 +54,20 @@ fn count_of(t: bool) -> u64
     0
 }
 
+// The stand once n unfinished bars are left, by whether its last stroke breaks.
+fn left_with(stand: Stand, broken: bool, n: usize) -> Stand
+    requires { ⌜ (broken ≡ true → 1 ≤ stand .strokes) ⌝ }
+    ensures { λ r. ⌜ r ≡ withUnfinished (leftStand broken stand) n ⌝ }
+{
+    let mut left = stand;
+    left.unfinished = n;
+    if broken {
+        left.strokes = stand.strokes - 1;
+        return left;
+    }
+    left
+}
+
 // The stroke that was found is put on, and the bars that the plan leaves stay.
 fn make_and_leave(
     stand: Stand,
@@ -73,7 +89,8 @@ fn make_and_leave(
     ensures { λ r. ⌜ HasLeft stand (mergedBefore ut ui up uc ue) (mergedBefore st si sp sc se) (fractalsBefore fs fp) r (mergedAfter ut ui up uc ue) (mergedAfter st si sp sc se) (fractalsAfter fs fp) ⌝ }
 {
     let made = make_if(stand, ut, ui, up, uc, ue, st, si, sp, sc, se, fs, fp, plan);
-    leave(made, ut, ui, up, uc, ue, st, si, sp, sc, se, plan)
+    let n = leave(made, ut, ui, up, uc, ue, st, si, sp, sc, se, plan);
+    left_with(made, plan.broken, n)
 }
 
 // update_bi of the source, as the plan has it: once the bar is merged, a stroke that was found is put on, the last one may break, and the oldest one

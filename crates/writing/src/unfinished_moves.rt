@@ -6,7 +6,7 @@ ghost use lib.ListN.{drop, getD};
 ghost use lib.Dec.{T};
 ghost use Rattle.stores.specs.Code.StoreRows.{SizedMerged};
 ghost use Rattle.machine.specs.Break.{joined};
-ghost use Rattle.strokes.specs.Code.BarSteps.{HasUnfinished, keptUnfinished, withoutLast, storedStroke};
+ghost use Rattle.strokes.specs.Code.BarSteps.{HasUnfinished, keptUnfinished, withUnfinished, withoutLast, storedStroke};
 ghost use Rattle.strokes.specs.Code.StrokeSteps.{lastPlace, lastBars};
 ghost use Rattle.strokes.specs.StateRead.{barCounts, total, elementsSized};
 ghost use Rattle.strokes.specs.Code.ElementCounts.{StaySized};
@@ -29,9 +29,9 @@ pub fn put_bar(
     ue: &mut [[i64; 101]],
     later: bool,
     b: Bar,
-) -> Stand
+) -> usize
     requires { ⌜ CanPut stand (rawHeld rt ri rp) (mergedHeld ut ui up uc ue) later b ⌝ }
-    ensures { λ r. ⌜ (HasUnfinished stand r (mergedAfter ut ui up uc ue) (mergedFrom later stand (rawBefore rt ri rp) (mergedBefore ut ui up uc ue) b)) × (StaySized (stand .unfinished) (mergedBefore ut ui up uc ue) (r .unfinished) (mergedAfter ut ui up uc ue)) ⌝ }
+    ensures { λ r. ⌜ (HasUnfinished stand (withUnfinished stand r) (mergedAfter ut ui up uc ue) (mergedFrom later stand (rawBefore rt ri rp) (mergedBefore ut ui up uc ue) b)) × (StaySized (stand .unfinished) (mergedBefore ut ui up uc ue) r (mergedAfter ut ui up uc ue)) ⌝ }
 {
     if later {
         return stand.put_merged(ut, ui, up, uc, ue, b);
@@ -48,12 +48,12 @@ fn begin_from(
     uc: &mut [usize],
     ue: &mut [[i64; 101]],
     k: usize,
-) -> Stand
+) -> usize
     requires { ⌜ SizedMerged (mergedHeld ut ui up uc ue) (stand .rooms .unfinished) ⌝ ∗ ⌜ stand .unfinished ≤ stand .rooms .unfinished ⌝ ∗ ⌜ k ≤ stand .unfinished ⌝ }
-    ensures { λ r. ⌜ (HasUnfinished stand r (mergedAfter ut ui up uc ue) (drop k (keptUnfinished stand (mergedBefore ut ui up uc ue)))) × (StaySized (stand .unfinished) (mergedBefore ut ui up uc ue) (r .unfinished) (mergedAfter ut ui up uc ue)) ⌝ }
+    ensures { λ r. ⌜ (HasUnfinished stand (withUnfinished stand r) (mergedAfter ut ui up uc ue) (drop k (keptUnfinished stand (mergedBefore ut ui up uc ue)))) × (StaySized (stand .unfinished) (mergedBefore ut ui up uc ue) r (mergedAfter ut ui up uc ue)) ⌝ }
 {
     if k == 0 {
-        return stand;
+        return stand.unfinished;
     }
     stand.begin_at(ut, ui, up, uc, ue, k)
 }
@@ -79,10 +79,10 @@ fn join_last(
     sp: &[[f64; 6]],
     sc: &[usize],
     se: &[[i64; 101]],
-) -> Stand
+) -> usize
     requires { ⌜ SizedMerged (mergedHeld ut ui up uc ue) (stand .rooms .unfinished) ⌝ ∗ ⌜ SizedMerged (mergedHeld st si sp sc se) (stand .rooms .strokes) ⌝ ∗ ⌜ stand .unfinished ≤ stand .rooms .unfinished ⌝ ∗ ⌜ CanBreak stand (mergedHeld st si sp sc se) (keptUnfinished stand (mergedHeld ut ui up uc ue)) ⌝ }
-    ensures { λ r. ⌜ HasUnfinished (withoutLast stand) r (mergedAfter ut ui up uc ue) (joined (storedStroke (mergedBefore st si sp sc se) (lastPlace stand) (lastBars stand)) (keptUnfinished stand (mergedBefore ut ui up uc ue))) ⌝ }
-    ensures { λ r. ⌜ (T (elementsSized (total (barCounts stand)) (mergedBefore st si sp sc se)) → StaySized (stand .unfinished) (mergedBefore ut ui up uc ue) (r .unfinished) (mergedAfter ut ui up uc ue)) ⌝ }
+    ensures { λ r. ⌜ HasUnfinished (withoutLast stand) (withUnfinished (withoutLast stand) r) (mergedAfter ut ui up uc ue) (joined (storedStroke (mergedBefore st si sp sc se) (lastPlace stand) (lastBars stand)) (keptUnfinished stand (mergedBefore ut ui up uc ue))) ⌝ }
+    ensures { λ r. ⌜ (T (elementsSized (total (barCounts stand)) (mergedBefore st si sp sc se)) → StaySized (stand .unfinished) (mergedBefore ut ui up uc ue) r (mergedAfter ut ui up uc ue)) ⌝ }
 {
     let counts = stand.bars;
     let n = stand.strokes - 1;
@@ -105,19 +105,21 @@ pub fn leave(
     sc: &[usize],
     se: &[[i64; 101]],
     plan: Plan,
-) -> Stand
+) -> usize
     requires { ⌜ CanLeave stand (mergedHeld ut ui up uc ue) (mergedHeld st si sp sc se) plan ⌝ }
-    ensures { λ r. ⌜ HasUnfinished (leftStand (plan .broken) stand) r (mergedAfter ut ui up uc ue) (leftBars (plan .broken) stand (mergedBefore st si sp sc se) (drop (restOf plan) (keptUnfinished stand (mergedBefore ut ui up uc ue)))) ⌝ }
-    ensures { λ r. ⌜ (T (elementsSized (total (barCounts stand)) (mergedBefore st si sp sc se)) → StaySized (stand .unfinished) (mergedBefore ut ui up uc ue) (r .unfinished) (mergedAfter ut ui up uc ue)) ⌝ }
+    ensures { λ r. ⌜ HasUnfinished (leftStand (plan .broken) stand) (withUnfinished (leftStand (plan .broken) stand) r) (mergedAfter ut ui up uc ue) (leftBars (plan .broken) stand (mergedBefore st si sp sc se) (drop (restOf plan) (keptUnfinished stand (mergedBefore ut ui up uc ue)))) ⌝ }
+    ensures { λ r. ⌜ (T (elementsSized (total (barCounts stand)) (mergedBefore st si sp sc se)) → StaySized (stand .unfinished) (mergedBefore ut ui up uc ue) r (mergedAfter ut ui up uc ue)) ⌝ }
 {
     let cut = plan.cut;
     let broken = plan.broken;
     let found = plan.found;
     let end = found.end;
     let rest = cut + end.place;
-    let left = begin_from(stand, ut, ui, up, uc, ue, rest);
+    let n = begin_from(stand, ut, ui, up, uc, ue, rest);
     if broken {
+        let mut left = stand;
+        left.unfinished = n;
         return join_last(left, ut, ui, up, uc, ue, st, si, sp, sc, se);
     }
-    left
+    n
 }

@@ -20,6 +20,7 @@ same-length : tie.Need-same-length
 same-length c = search needs
 
 returns : tie.Need-returns
+unfolding withRaw
 returns c =
     let a = c .before .before .before .args in
     none-dropped (a .self) _ (rawStore (a .rt .now) (a .ri .now) (a .rp .now)) _ (c .before .before .before .pre .0) (a .t) (c .before .before .before .pre .1)

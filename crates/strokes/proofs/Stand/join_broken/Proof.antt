@@ -14,9 +14,6 @@ use Rattle.strokes.proofs.StoredCounts.{stay-joined}
 use Rattle.strokes.proofs.Stand.join_broken.Statement.{statement}
 use Rattle.strokes.proofs.Stand.join_broken.Tie as tie
 
-sub-kept : tie.Need-sub-kept
-sub-kept c = search needs
-
 sub-front : tie.Need-sub-front
 sub-front c = search needs
 
@@ -34,11 +31,11 @@ count-before-requires c κs = search needs
 
 sub-left : tie.Need-sub-left
 sub-left c =
-    let a = c .before .before .before .before .before .before .args in
+    let a = c .before .before .before .before .before .args in
     let u = mergedStore (a .ut .now) (a .ui .now) (a .up .now) (a .uc .now) (a .ue .now) in
     let k = mergedStore (a .st .now) (a .si .now) (a .sp .now) (a .sc .now) (a .se .now) in
     let t = toZ-ofZ w64 (getD (a .st .now) (a .at + (a .rows - 2)) (pos 0)) (record { sfits = c .before .before .t .given }) in
-    let jn = join-place (a .self) u k (a .at) (a .rows) _ (c .before .before .before .before .before .before .pre) (c .count-before .ensures ∙ ap (λ (x : ℤ). placeOf x (take (a .self .unfinished) (a .ut .now))) t) in
+    let jn = join-place (a .self) u k (a .at) (a .rows) _ (c .before .before .before .before .before .pre) (c .count-before .ensures ∙ ap (λ (x : ℤ). placeOf x (take (a .self .unfinished) (a .ut .now))) t) in
     omega arith
 
 add-all : tie.Need-add-all
@@ -46,8 +43,8 @@ add-all c = search needs
 
 bring-requires : tie.Need-bring-requires
 bring-requires c κs =
-    let a = c .before .before .before .before .before .before .before .before .before .before .before .args in
-    let h = c .before .before .before .before .before .before .before .before .before .before .before .pre in
+    let a = c .before .before .before .before .before .before .before .before .before .before .args in
+    let h = c .before .before .before .before .before .before .before .before .before .before .pre in
     let u = mergedStore (a .ut .now) (a .ui .now) (a .up .now) (a .uc .now) (a .ue .now) in
     let k = mergedStore (a .st .now) (a .si .now) (a .sp .now) (a .sc .now) (a .se .now) in
     let t = toZ-ofZ w64 (getD (a .st .now) (a .at + (a .rows - 2)) (pos 0)) (record { sfits = c .before .before .before .before .before .before .before .t .given }) in
@@ -58,8 +55,8 @@ bring-requires c κs =
 
 join-new-bars-requires : tie.Need-join-new-bars-requires
 join-new-bars-requires c κs =
-    let a = c .before .before .before .before .before .before .before .before .before .before .before .before .before .before .before .before .before .before .before .before .before .before .before .args in
-    let h = c .before .before .before .before .before .before .before .before .before .before .before .before .before .before .before .before .before .before .before .before .before .before .before .pre in
+    let a = c .before .before .before .before .before .before .before .before .before .before .before .before .before .before .before .before .before .before .before .before .before .before .args in
+    let h = c .before .before .before .before .before .before .before .before .before .before .before .before .before .before .before .before .before .before .before .before .before .before .pre in
     let u = mergedStore (a .ut .now) (a .ui .now) (a .up .now) (a .uc .now) (a .ue .now) in
     let k = mergedStore (a .st .now) (a .si .now) (a .sp .now) (a .sc .now) (a .se .now) in
     let t = toZ-ofZ w64 (getD (a .st .now) (a .at + (a .rows - 2)) (pos 0)) (record { sfits = c .before .before .before .before .before .before .before .before .before .before .before .before .before .before .before .before .before .before .before .t .given }) in
@@ -85,12 +82,12 @@ same-length-5 c = search needs
 returns : tie.Need-returns
 unfolding withUnfinished withoutLast
 returns c =
-    let a = c .before .before .before .before .before .before .before .before .before .before .before .before .before .before .before .before .before .before .before .before .before .before .before .before .before .before .before .before .before .before .args in
+    let a = c .before .before .before .before .before .before .before .before .before .before .before .before .before .before .before .before .before .before .before .before .before .before .before .before .before .before .before .before .before .args in
     let u = mergedStore (a .ut .now) (a .ui .now) (a .up .now) (a .uc .now) (a .ue .now) in
     let k = mergedStore (a .st .now) (a .si .now) (a .sp .now) (a .sc .now) (a .se .now) in
     let t = toZ-ofZ w64 (getD (a .st .now) (a .at + (a .rows - 2)) (pos 0)) (record { sfits = c .before .before .before .before .before .before .before .before .before .before .before .before .before .before .before .before .before .before .before .before .before .before .before .before .before .before .t .given }) in
     let p = c .before .before .before .before .before .before .before .before .before .before .before .before .before .before .before .before .before .before .before .before .before .before .before .before .count-before .ensures ∙ ap (λ (x : ℤ). placeOf x (take (a .self .unfinished) (a .ut .now))) t in
-    let h = c .before .before .before .before .before .before .before .before .before .before .before .before .before .before .before .before .before .before .before .before .before .before .before .before .before .before .before .before .before .before .pre in
+    let h = c .before .before .before .before .before .before .before .before .before .before .before .before .before .before .before .before .before .before .before .before .before .before .before .before .before .before .before .before .before .pre in
     let brings = c .before .before .before .before .before .before .before .before .before .before .before .before .before .before .before .before .before .before .bring .ensures in
     let joins = c .before .before .before .before .before .before .join-new-bars .ensures in
     (was-joined (a .self) u k (a .at) (a .rows) _ h p _ _ _ brings joins refl, stay-joined (a .self) u k _ _ (a .at) (a .rows) _ h (join-place (a .self) u k (a .at) (a .rows) _ h p) (join-room (a .self) u k (a .at) (a .rows) _ h p) (brings .rows .counts) (joins .rows .counts))
@@ -99,7 +96,6 @@ pub join-broken-spec : {M : Type 1} → statement M
 join-broken-spec =
     tie.close
     (tie.spec
-    sub-kept
     sub-front
     add-place
     mul-t

@@ -20,8 +20,8 @@ write-with-element-requires c κs =
     let g = few-room (a .self) m (a .b) h (c .before .before .before .before .before .if1 .taken) in
     room-of m (a .self .rooms .unfinished) _ (h .unfinished) (omega arith)
 
-add-stand : tie.Need-add-stand
-add-stand c = search needs
+add-result : tie.Need-add-result
+add-result c = search needs
 
 same-length : tie.Need-same-length
 same-length c = search needs
@@ -131,8 +131,8 @@ write-with-element-requires-3 c κs =
     let room = apart-room (a .self) (a .self) m m (h .unfinished) (a .b) (k1 .result) (k2 .result) (f .result .bar) (f .result .merged) two (h .fits) (k1 .ensures) (k2 .ensures) (f .ensures) (c .before .before .before .before .before .if2 .left) (h .room) in
     room-of m (a .self .rooms .unfinished) _ (h .unfinished) (omega arith)
 
-add-stand-2 : tie.Need-add-stand-2
-add-stand-2 c =
+add-result-2 : tie.Need-add-result-2
+add-result-2 c =
     let a = c .before .before .before .before .before .before .before .before .before .before .before .before .before .before .before .before .before .before .before .before .before .before .before .before .before .args in
     let h = c .before .before .before .before .before .before .before .before .before .before .before .before .before .before .before .before .before .before .before .before .before .before .before .before .before .pre in
     let m = mergedStore (a .ut .now) (a .ui .now) (a .up .now) (a .uc .now) (a .ue .now) in
@@ -181,7 +181,7 @@ put-merged-spec =
     tie.close
     (tie.spec
     write-with-element-requires
-    add-stand
+    add-result
     same-length
     same-length-2
     same-length-3
@@ -202,7 +202,7 @@ put-merged-spec =
     same-length-10
     returns-2
     write-with-element-requires-3
-    add-stand-2
+    add-result-2
     same-length-11
     same-length-12
     same-length-13

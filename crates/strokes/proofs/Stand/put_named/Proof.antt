@@ -10,7 +10,7 @@ use mir.ValLaws.{toZ-ofZ}
 use Rattle.bars.specs.Merging.{atTimes}
 use Rattle.stores.specs.Stores.{rawStore, mergedStore}
 use Rattle.stores.specs.Code.StoreRows.{placeOf}
-use Rattle.strokes.specs.Code.BarSteps.{keptRaw}
+use Rattle.strokes.specs.Code.BarSteps.{keptRaw, withUnfinished}
 use Rattle.strokes.proofs.StoredAgain.{none-past, none-there, one-there, none-named, one-fits, one-named}
 use Rattle.strokes.proofs.Stand.put_named.Statement.{statement}
 use Rattle.strokes.proofs.Stand.put_named.Tie as tie
@@ -25,6 +25,7 @@ shared-slice-copy-out-if2 : tie.Need-shared-slice-copy-out-if2
 shared-slice-copy-out-if2 c = search needs
 
 returns : tie.Need-returns
+unfolding withUnfinished
 returns c =
     let a = c .before .before .before .before .before .args in
     let m = rawStore (a .rt .now) (a .ri .now) (a .rp .now) in
@@ -85,6 +86,7 @@ returns-2 c =
     )
 
 returns-3 : tie.Need-returns-3
+unfolding withUnfinished
 returns-3 c =
     let a = c .before .before .before .args in
     let m = rawStore (a .rt .now) (a .ri .now) (a .rp .now) in

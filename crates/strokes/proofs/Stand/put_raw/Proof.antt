@@ -13,8 +13,8 @@ write-bar-requires c κs =
     let k = c .before .before .before .before .pre .1 .1 .0 (c .before .before .before .if1 .taken) in
     record { times = omega arith; ids = omega arith; prices = omega arith }
 
-add-stand : tie.Need-add-stand
-add-stand c = search needs
+add-result : tie.Need-add-result
+add-result c = search needs
 
 same-length : tie.Need-same-length
 same-length c = search needs
@@ -63,7 +63,7 @@ put-raw-spec =
     tie.close
     (tie.spec
     write-bar-requires
-    add-stand
+    add-result
     same-length
     same-length-2
     same-length-3

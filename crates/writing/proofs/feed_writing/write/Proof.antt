@@ -3,6 +3,7 @@ use mathlib.Core.Path.{_≡_, refl}
 use lib.ListN.{length}
 use borrow.Author.Needs.{length-unmapped}
 use Rattle.strokes.specs.Lent.{Stores, storesOf, held}
+use Rattle.strokes.specs.Code.BarSteps.{withRaw, withUnfinished}
 use Rattle.writing.proofs.WriteLaws.{can-put, can-move, can-keep, is-written}
 use Rattle.writing.proofs.SameLengths.{written-lengths}
 use Rattle.writing.proofs.feed_writing.write.Statement.{statement}
@@ -56,34 +57,35 @@ put-bar-requires c κs =
     can-put (a .stand) (lent s) (a .b) (a .later) (a .plan) (s .pre) (long-bars s) (long-fractals s)
 
 update-bi-requires : tie.Need-update-bi-requires
-unfolding storesOf
+unfolding storesOf withUnfinished
 update-bi-requires c κs =
     let s = start (put c .before) in
     let a = s .args in
     let p = put c .put-bar in
-    can-move (a .stand) (lent s) (a .b) (a .later) (a .plan) (s .pre) (long-bars s) (long-fractals s) (p .result) _ (p .ensures .0) (p .ensures .1)
+    can-move (a .stand) (lent s) (a .b) (a .later) (a .plan) (s .pre) (long-bars s) (long-fractals s) (withUnfinished (a .stand) (p .result)) _ (p .ensures .0) (p .ensures .1)
 
 keep-raw-requires : tie.Need-keep-raw-requires
-unfolding storesOf
+unfolding storesOf withUnfinished
 keep-raw-requires c κs =
     let q = put (moved c .before) in
     let s = start (q .before) in
     let a = s .args in
     let p = q .put-bar in
     let w = moved c .update-bi in
-    can-keep (a .stand) (lent s) (a .b) (a .later) (a .plan) (s .pre) (long-bars s) (long-fractals s) (p .result) _ (p .ensures .0) (p .ensures .1) (w .result) _ _ _ (w .ensures)
+    can-keep (a .stand) (lent s) (a .b) (a .later) (a .plan) (s .pre) (long-bars s) (long-fractals s) (withUnfinished (a .stand) (p .result)) _ (p .ensures .0) (p .ensures .1) (w .result) _ _ _ (w .ensures)
 
 returns : tie.Need-returns
-unfolding storesOf
+unfolding storesOf withUnfinished withRaw
 returns c =
     let s = start-kept c in
     let a = s .args in
     let p = put-kept c .put-bar in
     let w = moved-kept c .update-bi in
     let r = kept c .keep-raw in
-    let lr : length (r .result .bars) ≡ 65 = length-unmapped ℕ (r .result .bars) 65 (r .ok .1 .1 .1 .1 .1 .1 .1 .1 .0 .1 .0 .1) in
-    let lq : length (r .result .fractals) ≡ 65 = length-unmapped ℕ (r .result .fractals) 65 (r .ok .1 .1 .1 .1 .1 .1 .1 .1 .1 .0 .1 .0 .1) in
-    is-written (a .stand) (lent s) (a .b) (a .later) (a .plan) (s .pre) (long-bars s) (long-fractals s) (p .result) _ (p .ensures .0) (p .ensures .1) (w .result) _ _ _ (w .ensures) (r .result) _ (r .ensures) lr lq _ refl refl refl refl
+    let t = w .result .stand in
+    let lr : length (t .bars) ≡ 65 = length-unmapped ℕ (t .bars) 65 (w .ok .1 .1 .0 .1 .1 .1 .1 .1 .1 .1 .1 .0 .1 .0 .1) in
+    let lq : length (t .fractals) ≡ 65 = length-unmapped ℕ (t .fractals) 65 (w .ok .1 .1 .0 .1 .1 .1 .1 .1 .1 .1 .1 .1 .0 .1 .0 .1) in
+    is-written (a .stand) (lent s) (a .b) (a .later) (a .plan) (s .pre) (long-bars s) (long-fractals s) (withUnfinished (a .stand) (p .result)) _ (p .ensures .0) (p .ensures .1) (w .result) _ _ _ (w .ensures) (withRaw t (r .result)) _ (r .ensures) lr lq _ refl refl refl refl
 
 same-length : tie.Need-same-length
 unfolding storesOf

@@ -1,9 +1,10 @@
-use Rattle.writing.proofs.StepLaws.{raw-rooms, raw-sized, raw-fits, none-dropped, some-dropped}
+use Rattle.writing.proofs.StepLaws.{raw-sized, raw-fits, none-dropped, some-dropped}
 use mir.ValLaws.{toZ-ofZ}
 use mir.Syntax.{w64}
 use lib.IntN.{pos}
 use lib.ListN.{length, getD}
-use mathlib.Core.Path.{sym, _∙_, ap}
+use mathlib.Core.Path.{sym, _∙_}
+use Rattle.strokes.specs.Code.BarSteps.{withRaw}
 use Prim.Native.Nat.{_<_}
 use native.Mathlib.Omega.{arith}
 use borrow.Author.Needs.{needs}
@@ -29,19 +30,21 @@ shared-slice-copy-out-t : tie.Need-shared-slice-copy-out-t
 shared-slice-copy-out-t c = let a = c .before .before .before .before .before .before .before .before .args in let e = c .if1 .left in let q : 0 < length (a .st .now) = c .before .before .before .before .before .before .before .before .pre .shows (omega arith) in search needs
 
 drop-raw-requires : tie.Need-drop-raw-requires
-drop-raw-requires c κs = let a = c .before .before .before .before .before .before .before .before .before .before .before .before .args in let h = c .before .before .before .before .before .before .before .before .put-raw .ensures in (raw-sized (a .stand) (c .before .before .before .before .before .before .before .before .put-raw .result) _ _ h, raw-fits (a .stand) (c .before .before .before .before .before .before .before .before .put-raw .result) _ _ h)
+unfolding withRaw
+drop-raw-requires c κs = let a = c .before .before .before .before .before .before .before .before .before .before .before .before .args in let h = c .before .before .before .before .before .before .before .before .put-raw .ensures in (raw-sized (a .stand) (withRaw (a .stand) (c .before .before .before .before .before .before .before .before .put-raw .result)) _ _ h, raw-fits (a .stand) (withRaw (a .stand) (c .before .before .before .before .before .before .before .before .put-raw .result)) _ _ h)
 
 same-length-4 : tie.Need-same-length-4
-same-length-4 c = c .before .before .before .drop-raw .ensures .sized .times ∙ ap (λ x. x .raw) (raw-rooms (c .before .before .before .before .before .before .before .before .before .before .before .before .before .before .before .before .args .stand) (c .before .before .before .before .before .before .before .before .before .before .before .before .put-raw .result) _ _ (c .before .before .before .before .before .before .before .before .before .before .before .before .put-raw .ensures)) ∙ sym (c .before .before .before .before .before .before .before .before .before .before .before .before .before .before .before .before .pre .sized .times)
+same-length-4 c = c .before .before .before .drop-raw .ensures .sized .times ∙ sym (c .before .before .before .before .before .before .before .before .before .before .before .before .before .before .before .before .pre .sized .times)
 
 same-length-5 : tie.Need-same-length-5
-same-length-5 c = c .before .before .before .drop-raw .ensures .sized .ids ∙ ap (λ x. x .raw) (raw-rooms (c .before .before .before .before .before .before .before .before .before .before .before .before .before .before .before .before .args .stand) (c .before .before .before .before .before .before .before .before .before .before .before .before .put-raw .result) _ _ (c .before .before .before .before .before .before .before .before .before .before .before .before .put-raw .ensures)) ∙ sym (c .before .before .before .before .before .before .before .before .before .before .before .before .before .before .before .before .pre .sized .ids)
+same-length-5 c = c .before .before .before .drop-raw .ensures .sized .ids ∙ sym (c .before .before .before .before .before .before .before .before .before .before .before .before .before .before .before .before .pre .sized .ids)
 
 same-length-6 : tie.Need-same-length-6
-same-length-6 c = c .before .before .before .drop-raw .ensures .sized .prices ∙ ap (λ x. x .raw) (raw-rooms (c .before .before .before .before .before .before .before .before .before .before .before .before .before .before .before .before .args .stand) (c .before .before .before .before .before .before .before .before .before .before .before .before .put-raw .result) _ _ (c .before .before .before .before .before .before .before .before .before .before .before .before .put-raw .ensures)) ∙ sym (c .before .before .before .before .before .before .before .before .before .before .before .before .before .before .before .before .pre .sized .prices)
+same-length-6 c = c .before .before .before .drop-raw .ensures .sized .prices ∙ sym (c .before .before .before .before .before .before .before .before .before .before .before .before .before .before .before .before .pre .sized .prices)
 
 returns-2 : tie.Need-returns-2
-returns-2 c = let a = c .before .before .before .before .before .before .before .before .before .before .before .before .before .before .before .before .args in let b = c .before .before .before .before .before .before .before .before .before .before .before .before .put-raw in some-dropped (a .stand) (b .result) _ _ (b .ensures) _ _ (a .stand .strokes) (getD (a .st .now) 0 (pos 0)) _ (c .before .before .before .before .before .before .before .before .if1 .left) (toZ-ofZ w64 _ (record { sfits = c .before .before .before .before .before .before .before .t .given })) (c .before .before .before .drop-raw .ensures)
+unfolding withRaw
+returns-2 c = let a = c .before .before .before .before .before .before .before .before .before .before .before .before .before .before .before .before .args in let b = c .before .before .before .before .before .before .before .before .before .before .before .before .put-raw in some-dropped (a .stand) (withRaw (a .stand) (b .result)) _ _ (b .ensures) _ _ (a .stand .strokes) (getD (a .st .now) 0 (pos 0)) _ (c .before .before .before .before .before .before .before .before .if1 .left) (toZ-ofZ w64 _ (record { sfits = c .before .before .before .before .before .before .before .t .given })) (c .before .before .before .drop-raw .ensures)
 
 pub keep-raw-spec : {M : Type 1} → statement M
 keep-raw-spec =

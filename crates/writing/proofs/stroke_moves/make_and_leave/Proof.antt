@@ -23,16 +23,22 @@ after-make-if c = c .before .before .before .before .before .before .before .bef
 abbrev after-make-if-from-leave : tie.After-leave → tie.After-make-if
 after-make-if-from-leave c = after-make-if (c .before)
 
-abbrev after-leave : tie.After-ue → tie.After-leave
-after-leave c = c .before .before .before .before .before .before
+abbrev after-leave : tie.After-left-with → tie.After-leave
+after-leave c = c .before .before .before .before .before .before .before
+
+abbrev make-if-seen-2 : tie.After-ue → tie.After-make-if
+make-if-seen-2 c = after-make-if-from-leave (c .before .before .before .before .before .before)
+
+abbrev start-seen-3 : tie.After-ue → tie.Start
+start-seen-3 c = start-from-make-if (make-if-seen-2 c)
 
 abbrev start-seen : tie.After-leave-arg10 → tie.Start
 start-seen c = start-from-make-if (after-make-if c)
 
-abbrev start-seen-2 : tie.After-ue → tie.Start
+abbrev start-seen-2 : tie.After-left-with → tie.Start
 start-seen-2 c = start-from-make-if (after-make-if-from-leave (after-leave c))
 
-abbrev make-if-seen : tie.After-ue → tie.After-make-if
+abbrev make-if-seen : tie.After-left-with → tie.After-make-if
 make-if-seen c = after-make-if-from-leave (after-leave c)
 
 -- ---- what is needed
@@ -42,6 +48,9 @@ make-if-requires c κs = let a = (start c) .args in let g = (start c) .good .0 i
 
 leave-requires : tie.Need-leave-requires
 leave-requires c κs = let a = (start-seen c) .args in let m = (after-make-if c) .make-if in let g = m .ok in let lb : length (m .result .bars) ≡ 65 = length-unmapped ℕ (m .result .bars) 65 (g .1 .1 .1 .1 .1 .1 .1 .1 .0 .1 .0 .1) in let lf : length (m .result .fractals) ≡ 65 = length-unmapped ℕ (m .result .fractals) 65 (g .1 .1 .1 .1 .1 .1 .1 .1 .1 .0 .1 .0 .1) in can-leave (a .stand) (mergedStore (a .ut .now) (a .ui .now) (a .up .now) (a .uc .now) (a .ue .now)) (mergedStore (a .st .now) (a .si .now) (a .sp .now) (a .sc .now) (a .se .now)) (fractalStore (a .fs .now) (a .fp .now)) (a .plan) ((start-seen c) .pre) (m .result) _ _ (m .ensures) lb lf
+
+left-with-requires : tie.Need-left-with-requires
+left-with-requires c κs = let a = (start-seen-3 c) .args in let m = (make-if-seen-2 c) .make-if in let g = m .ok in let lb : length (m .result .bars) ≡ 65 = length-unmapped ℕ (m .result .bars) 65 (g .1 .1 .1 .1 .1 .1 .1 .1 .0 .1 .0 .1) in let lf : length (m .result .fractals) ≡ 65 = length-unmapped ℕ (m .result .fractals) 65 (g .1 .1 .1 .1 .1 .1 .1 .1 .1 .0 .1 .0 .1) in λ e. (can-leave (a .stand) (mergedStore (a .ut .now) (a .ui .now) (a .up .now) (a .uc .now) (a .ue .now)) (mergedStore (a .st .now) (a .si .now) (a .sp .now) (a .sc .now) (a .se .now)) (fractalStore (a .fs .now) (a .fp .now)) (a .plan) ((start-seen-3 c) .pre) (m .result) _ _ (m .ensures) lb lf) .breaks e .kept
 
 same-length : tie.Need-same-length
 same-length c = let m = (make-if-seen c) .make-if in (left-sized ((start-seen-2 c) .args .plan .broken) (m .result) _ _ _ _ ((after-leave c) .leave .ensures .0) (m .ensures .rest .rooms)) .raw .times ∙ sym ((start-seen-2 c) .pre .unfinished .raw .times)
@@ -80,7 +89,7 @@ same-length-12 : tie.Need-same-length-12
 same-length-12 c = let h = (make-if-seen c) .make-if .ensures in h .kept .fractals .prices ∙ ap (λ x. x .strokes) (h .rest .rooms) ∙ sym ((start-seen-2 c) .pre .kept .fractals .prices)
 
 returns : tie.Need-returns
-returns c = let a = (start-seen-2 c) .args in let m = (make-if-seen c) .make-if in let g = m .ok in let lb : length (m .result .bars) ≡ 65 = length-unmapped ℕ (m .result .bars) 65 (g .1 .1 .1 .1 .1 .1 .1 .1 .0 .1 .0 .1) in let lf : length (m .result .fractals) ≡ 65 = length-unmapped ℕ (m .result .fractals) 65 (g .1 .1 .1 .1 .1 .1 .1 .1 .1 .0 .1 .0 .1) in let e = (after-leave c) .leave .ensures in has-left (a .stand) (mergedStore (a .ut .now) (a .ui .now) (a .up .now) (a .uc .now) (a .ue .now)) (mergedStore (a .st .now) (a .si .now) (a .sp .now) (a .sc .now) (a .se .now)) (fractalStore (a .fs .now) (a .fp .now)) (a .plan) ((start-seen-2 c) .pre) (m .result) _ _ (m .ensures) lb lf _ _ (e .0) (e .1)
+returns c = let a = (start-seen-2 c) .args in let m = (make-if-seen c) .make-if in let g = m .ok in let lb : length (m .result .bars) ≡ 65 = length-unmapped ℕ (m .result .bars) 65 (g .1 .1 .1 .1 .1 .1 .1 .1 .0 .1 .0 .1) in let lf : length (m .result .fractals) ≡ 65 = length-unmapped ℕ (m .result .fractals) 65 (g .1 .1 .1 .1 .1 .1 .1 .1 .1 .0 .1 .0 .1) in let e = (after-leave c) .leave .ensures in has-left (a .stand) (mergedStore (a .ut .now) (a .ui .now) (a .up .now) (a .uc .now) (a .ue .now)) (mergedStore (a .st .now) (a .si .now) (a .sp .now) (a .sc .now) (a .se .now)) (fractalStore (a .fs .now) (a .fp .now)) (a .plan) ((start-seen-2 c) .pre) (m .result) _ _ (m .ensures) lb lf _ _ _ (c .left-with .ensures) (e .0) (e .1)
 
 pub make-and-leave-spec : {M : Type 1} → statement M
 make-and-leave-spec =
@@ -88,6 +97,7 @@ make-and-leave-spec =
     (tie.spec
     make-if-requires
     leave-requires
+    left-with-requires
     same-length
     same-length-2
     same-length-3

@@ -1,11 +1,13 @@
 use Rattle.writing.proofs.StepLaws.{begun-none}
 use Rattle.stores.specs.Stores.{mergedStore}
+use Rattle.strokes.specs.Code.BarSteps.{withUnfinished}
 use mathlib.Core.Path.{sym, _∙_}
 use borrow.Author.Needs.{needs}
 use Rattle.writing.proofs.unfinished_moves.begin_from.Statement.{statement}
 use Rattle.writing.proofs.unfinished_moves.begin_from.Tie as tie
 
 returns : tie.Need-returns
+unfolding withUnfinished
 returns c = let a = c .before .before .args in let p = c .before .before .pre in (begun-none (a .stand) (mergedStore (a .ut .now) (a .ui .now) (a .up .now) (a .uc .now) (a .ue .now)) (a .k) (p .0) (p .1 .0) (c .if1 .taken), λ t. t)
 
 begin-at-requires : tie.Need-begin-at-requires

@@ -1,10 +1,9 @@
-use Rattle.writing.proofs.StepLaws.{left-breaks, left-joined, left-as-is, left-rooms, left-elements}
-use mathlib.Core.Path.{ap}
+use Rattle.writing.proofs.StepLaws.{left-breaks, left-joined, left-as-is, left-elements}
 use Rattle.writing.specs.Code.WriteSteps.{restOf}
 use Rattle.strokes.specs.Code.BarSteps.{withoutLast, keptUnfinished, withUnfinished}
 use Rattle.stores.specs.Stores.{mergedStore}
 use lib.ListN.{drop}
-use mathlib.Core.Path.{sym, _∙_}
+use mathlib.Core.Path.{refl, sym, _∙_}
 use native.Mathlib.Omega.{arith}
 use borrow.Author.Needs.{needs}
 use Rattle.writing.proofs.unfinished_moves.leave.Statement.{statement}
@@ -59,32 +58,32 @@ unfolding restOf
 begin-from-requires c κs = let p = (start-from-begin-from-arg5 c) .pre in (p .unfinished, (p .fits, p .inside))
 
 join-last-requires : tie.Need-join-last-requires
-unfolding restOf
-join-last-requires c κs = let a = (start-seen-2 c) .args in let p = (start-seen-2 c) .pre in let b = (after-begin-from-from-then1 (then1 c)) .begin-from in let g = left-breaks (a .stand) (b .result) _ (mergedStore (a .st .now) (a .si .now) (a .sp .now) (a .sc .now) (a .se .now)) (drop (restOf (a .plan)) (keptUnfinished (a .stand) (mergedStore (a .ut .now) (a .ui .now) (a .up .now) (a .uc .now) (a .ue .now)))) (b .ensures .0) (p .strokes) (p .breaks ((then1 c) .if1 .taken)) in (g .unfinished, (g .strokes, (g .fits, g .breaks)))
+unfolding restOf withUnfinished
+join-last-requires c κs = let a = (start-seen-2 c) .args in let p = (start-seen-2 c) .pre in let b = (after-begin-from-from-then1 (then1 c)) .begin-from in let g = left-breaks (a .stand) (withUnfinished (a .stand) (b .result)) _ (mergedStore (a .st .now) (a .si .now) (a .sp .now) (a .sc .now) (a .se .now)) (drop (restOf (a .plan)) (keptUnfinished (a .stand) (mergedStore (a .ut .now) (a .ui .now) (a .up .now) (a .uc .now) (a .ue .now)))) (b .ensures .0) (p .strokes) (p .breaks ((then1 c) .if1 .taken)) in (g .unfinished, (g .strokes, (g .fits, g .breaks)))
 
 same-length : tie.Need-same-length
 unfolding restOf withoutLast withUnfinished
-same-length c = let a = (start-seen-3 c) .args in let b = (begin-from-seen c) .begin-from in (after-join-last c) .join-last .ensures .0 .sized .raw .times ∙ ap (λ x. x .unfinished) (left-rooms _ (b .result) _ (mergedStore (a .st .now) (a .si .now) (a .sp .now) (a .sc .now) (a .se .now)) _ (b .ensures .0)) ∙ sym ((start-seen-3 c) .pre .unfinished .raw .times)
+same-length c = (after-join-last c) .join-last .ensures .0 .sized .raw .times ∙ sym ((start-seen-3 c) .pre .unfinished .raw .times)
 
 same-length-2 : tie.Need-same-length-2
 unfolding restOf withoutLast withUnfinished
-same-length-2 c = let a = (start-seen-3 c) .args in let b = (begin-from-seen c) .begin-from in (after-join-last c) .join-last .ensures .0 .sized .raw .ids ∙ ap (λ x. x .unfinished) (left-rooms _ (b .result) _ (mergedStore (a .st .now) (a .si .now) (a .sp .now) (a .sc .now) (a .se .now)) _ (b .ensures .0)) ∙ sym ((start-seen-3 c) .pre .unfinished .raw .ids)
+same-length-2 c = (after-join-last c) .join-last .ensures .0 .sized .raw .ids ∙ sym ((start-seen-3 c) .pre .unfinished .raw .ids)
 
 same-length-3 : tie.Need-same-length-3
 unfolding restOf withoutLast withUnfinished
-same-length-3 c = let a = (start-seen-3 c) .args in let b = (begin-from-seen c) .begin-from in (after-join-last c) .join-last .ensures .0 .sized .raw .prices ∙ ap (λ x. x .unfinished) (left-rooms _ (b .result) _ (mergedStore (a .st .now) (a .si .now) (a .sp .now) (a .sc .now) (a .se .now)) _ (b .ensures .0)) ∙ sym ((start-seen-3 c) .pre .unfinished .raw .prices)
+same-length-3 c = (after-join-last c) .join-last .ensures .0 .sized .raw .prices ∙ sym ((start-seen-3 c) .pre .unfinished .raw .prices)
 
 same-length-4 : tie.Need-same-length-4
 unfolding restOf withoutLast withUnfinished
-same-length-4 c = let a = (start-seen-3 c) .args in let b = (begin-from-seen c) .begin-from in (after-join-last c) .join-last .ensures .0 .sized .counts ∙ ap (λ x. x .unfinished) (left-rooms _ (b .result) _ (mergedStore (a .st .now) (a .si .now) (a .sp .now) (a .sc .now) (a .se .now)) _ (b .ensures .0)) ∙ sym ((start-seen-3 c) .pre .unfinished .counts)
+same-length-4 c = (after-join-last c) .join-last .ensures .0 .sized .counts ∙ sym ((start-seen-3 c) .pre .unfinished .counts)
 
 same-length-5 : tie.Need-same-length-5
 unfolding restOf withoutLast withUnfinished
-same-length-5 c = let a = (start-seen-3 c) .args in let b = (begin-from-seen c) .begin-from in (after-join-last c) .join-last .ensures .0 .sized .elements ∙ ap (λ x. x .unfinished) (left-rooms _ (b .result) _ (mergedStore (a .st .now) (a .si .now) (a .sp .now) (a .sc .now) (a .se .now)) _ (b .ensures .0)) ∙ sym ((start-seen-3 c) .pre .unfinished .elements)
+same-length-5 c = (after-join-last c) .join-last .ensures .0 .sized .elements ∙ sym ((start-seen-3 c) .pre .unfinished .elements)
 
 returns : tie.Need-returns
-unfolding restOf
-returns c = let a = (start-seen-3 c) .args in let b = (begin-from-seen c) .begin-from in let j = (after-join-last c) .join-last .ensures in (left-joined (a .stand) (b .result) _ (mergedStore (a .st .now) (a .si .now) (a .sp .now) (a .sc .now) (a .se .now)) (drop (restOf (a .plan)) (keptUnfinished (a .stand) (mergedStore (a .ut .now) (a .ui .now) (a .up .now) (a .uc .now) (a .ue .now)))) (b .ensures .0) _ _ (a .plan .broken) ((then1-from-join-last (after-join-last c)) .if1 .taken) (j .0), λ t e. j .1 (left-elements (a .stand) (b .result) _ (mergedStore (a .st .now) (a .si .now) (a .sp .now) (a .sc .now) (a .se .now)) (drop (restOf (a .plan)) (keptUnfinished (a .stand) (mergedStore (a .ut .now) (a .ui .now) (a .up .now) (a .uc .now) (a .ue .now)))) (b .ensures .0) t) (b .ensures .1 e))
+unfolding restOf withUnfinished
+returns c = let a = (start-seen-3 c) .args in let b = (begin-from-seen c) .begin-from in let j = (after-join-last c) .join-last .ensures in (left-joined (a .stand) (withUnfinished (a .stand) (b .result)) _ (mergedStore (a .st .now) (a .si .now) (a .sp .now) (a .sc .now) (a .se .now)) (drop (restOf (a .plan)) (keptUnfinished (a .stand) (mergedStore (a .ut .now) (a .ui .now) (a .up .now) (a .uc .now) (a .ue .now)))) (b .ensures .0) _ _ (a .plan .broken) ((then1-from-join-last (after-join-last c)) .if1 .taken) (j .0), λ t e. j .1 (left-elements (a .stand) (withUnfinished (a .stand) (b .result)) _ (mergedStore (a .st .now) (a .si .now) (a .sp .now) (a .sc .now) (a .se .now)) (drop (restOf (a .plan)) (keptUnfinished (a .stand) (mergedStore (a .ut .now) (a .ui .now) (a .up .now) (a .uc .now) (a .ue .now)))) (b .ensures .0) t) (b .ensures .1 e))
 
 same-length-6 : tie.Need-same-length-6
 same-length-6 c = (after-begin-from c) .begin-from .ensures .0 .sized .raw .times ∙ sym ((start-seen c) .pre .unfinished .raw .times)
@@ -103,7 +102,7 @@ same-length-10 c = (after-begin-from c) .begin-from .ensures .0 .sized .elements
 
 returns-2 : tie.Need-returns-2
 unfolding restOf
-returns-2 c = let a = (start-seen c) .args in let b = (after-begin-from c) .begin-from in (left-as-is (a .stand) (b .result) _ (mergedStore (a .st .now) (a .si .now) (a .sp .now) (a .sc .now) (a .se .now)) (drop (restOf (a .plan)) (keptUnfinished (a .stand) (mergedStore (a .ut .now) (a .ui .now) (a .up .now) (a .uc .now) (a .ue .now)))) (b .ensures .0) (a .plan .broken) (c .if1 .left), λ t e. b .ensures .1 e)
+returns-2 c = let a = (start-seen c) .args in let b = (after-begin-from c) .begin-from in (left-as-is (a .stand) (withUnfinished (a .stand) (b .result)) _ (mergedStore (a .st .now) (a .si .now) (a .sp .now) (a .sc .now) (a .se .now)) (drop (restOf (a .plan)) (keptUnfinished (a .stand) (mergedStore (a .ut .now) (a .ui .now) (a .up .now) (a .uc .now) (a .ue .now)))) (b .ensures .0) (a .plan .broken) (b .result) refl (c .if1 .left), λ t e. b .ensures .1 e)
 
 pub leave-spec : {M : Type 1} → statement M
 leave-spec =
