@@ -21,12 +21,13 @@ use Rattle.strokes.specs.Lent.{Stores}
 use Rattle.sound.specs.declared.fresh_stand.FreshAnswer.{FreshAnswer}
 use Rattle.sound.specs.FreshStand.{freshOf}
 use Rattle.batch.specs.declared.batch.BatchAnswer.{BatchAnswer}
+use Rattle.batch.specs.declared.batch.Sums.{Sums}
 use Rattle.feed.specs.PortCalls.{failedBy, FeedIs, added, none, acceptedIf, acceptedOf}
 use Rattle.from_fresh.specs.FromFresh.{FromFresh}
 use Rattle.from_fresh.proofs.OneMoreCall.{events, grown}
-use Rattle.from_fresh.specs.Code.ClearWindows.{Clear, ClearAfter}
+use Rattle.from_fresh.specs.Code.ClearWindows.{Clear}
 use Rattle.from_fresh.proofs.FromFreshLaws.{from-fresh-begins, from-fresh-next, from-fresh-calls, from-fresh-sizes}
-use Rattle.from_fresh.proofs.ClearNext.{can-look, clear-next}
+use Rattle.from_fresh.proofs.ClearNext.{can-look}
 use Rattle.batch.specs.BatchCalls.{AllAccepted, BatchFed, BatchIs}
 use Rattle.batch.specs.Code.BatchSteps.{CanBatch, CanAdvance, advanced, leftOf}
 use Rattle.writing.proofs.SameLengths.{SameLengths}
@@ -132,21 +133,17 @@ room-at s i n r h =
 
 -- ---- the answer so far
 
--- r after the bars that were fed, k the stores then, `left` the bars to feed yet: none once one was refused
-pub record Onward (s : Stand) (m : Stores) (bars : RawStore) (n left : ℕ) (r : BatchAnswer) (k : Stores) : Type 0 where
-  pub going : Going s m (rawBars bars) (r .fed) (r .made) (r .broken) (r .shed) (r .stand) k
+abbrev pub answerOf : Sums → Stand → BatchAnswer
+answerOf r t = record { stand = t; fed = r .fed; failed = r .failed; made = r .made; broken = r .broken; shed = r .shed }
+
+-- r, the stand t and the stores k after the bars that were fed, `left` the bars to feed yet: none once one was refused
+pub record Onward (s : Stand) (m : Stores) (bars : RawStore) (n left : ℕ) (r : Sums) (t : Stand) (k : Stores) : Type 0 where
+  pub going : Going s m (rawBars bars) (r .fed) (r .made) (r .broken) (r .shed) t k
   pub more : r .failed ≡ 0 → left + r .fed ≡ n
-  pub stopped : (r .failed ≡ 0 → ⊥) → (left ≡ 0) × BatchFed s m (rawBars bars) r k
+  pub stopped : (r .failed ≡ 0 → ⊥) → (left ≡ 0) × BatchFed s m (rawBars bars) (answerOf r t) k
 
-pub onward-start : (s : Stand) (m : Stores) (bars : RawStore) (n : ℕ) → Onward s m bars n n (record { stand = s; fed = 0; failed = 0; made = 0; broken = 0; shed = 0 }) m
+pub onward-start : (s : Stand) (m : Stores) (bars : RawStore) (n : ℕ) → Onward s m bars n n (record { fed = 0; failed = 0; made = 0; broken = 0; shed = 0 }) s m
 onward-start s m bars n = record { going = going-start s m (rawBars bars); more = λ z. omega arith; stopped = λ nz. absurd (nz refl) }
-
--- the answer with one more bar has the stand that the feed left
-fed-stand : {s t : Stand} {k k' : Stores} {b : Bar} (f : ℕ) {made broken shed : ℕ} (r : BatchAnswer) → r .stand ≡ s → FeedIs s k b f made broken shed t k'
-    → t ≡ (advanced f r made broken shed t) .stand
-unfolding advanced
-fed-stand zero r e x = refl
-fed-stand (suc f) r e x = (x .refused (λ z. omega arith)) .0 ∙ sym e
 
 -- a bar is left, so none was refused
 still : (failed left : ℕ) → 0 < left → ((failed ≡ 0 → ⊥) → left ≡ 0) → failed ≡ 0
@@ -156,7 +153,7 @@ still (suc f) left h stop =
     let w : ⊥ = omega arith in
     absurd w
 
-module _ {s : Stand} {m k : Stores} {bars : RawStore} {n left : ℕ} {r : BatchAnswer} (can : CanBatch s m bars n) (o : Onward s m bars n left r k) where
+module _ {s : Stand} {m k : Stores} {bars : RawStore} {n left : ℕ} {r : Sums} {t : Stand} (can : CanBatch s m bars n) (o : Onward s m bars n left r t k) where
   none-refused : 0 < left → r .failed ≡ 0
   none-refused h = still (r .failed) left h (λ nz. (o .stopped nz) .0)
 
@@ -167,18 +164,18 @@ module _ {s : Stand} {m k : Stores} {bars : RawStore} {n left : ℕ} {r : BatchA
   pub next-room : 0 < left → RoomRaw bars (r .fed + 1)
   next-room h = room-at bars (r .fed) n (can .room) (before-end h)
 
-  pub next-reached : FromFresh (r .stand) k
+  pub next-reached : FromFresh t k
   next-reached = from-fresh-calls (can .begun) (o .going .fed .calls)
 
   -- what the windows after it ask
-  pub can-look-on : {b : Bar} {c f made broken shed : ℕ} {t : Stand} {k' : Stores} → Clear (r .stand) k c → FeedIs (r .stand) k b f made broken shed t k'
-      → ((r .stand) .raw < 4294967296) × ((r .stand) .unfinished < 4294967296) × (t .unfinished < 4294967296) × (c ≤ (r .stand) .unfinished) × (t .unfinished ≤ length (k' .unfinished .prices))
+  pub can-look-on : {b : Bar} {c f made broken shed : ℕ} {t' : Stand} {k' : Stores} → Clear t k c → FeedIs t k b f made broken shed t' k'
+      → (t .raw < 4294967296) × (t .unfinished < 4294967296) × (t' .unfinished < 4294967296) × (c ≤ t .unfinished) × (t' .unfinished ≤ length (k' .unfinished .prices))
   can-look-on w x = can-look next-reached w (from-fresh-next next-reached x)
 
   -- the sums of one more bar fit
-  pub can-advance : {b : Bar} {f made broken shed : ℕ} {t : Stand} {k' : Stores} → 0 < left → n ≤ 18446744073709551615 → FeedIs (r .stand) k b f made broken shed t k'
+  pub can-advance : {b : Bar} {f made broken shed : ℕ} {t' : Stand} {k' : Stores} → 0 < left → n ≤ 18446744073709551615 → FeedIs t k b f made broken shed t' k'
       → CanAdvance r f made broken shed
-  can-advance {b = b} {made = made} {broken = broken} {shed = shed} {t = t} {k' = k'} h top x =
+  can-advance h top x =
       let e = before-end h in
       let a1 = o .going .few-made in
       let a2 = o .going .few-broken in
@@ -199,44 +196,40 @@ module _ {s : Stand} {m k : Stores} {bars : RawStore} {n left : ℕ} {r : BatchA
       let l = before-end h in
       omega arith
 
-  by-number : (h : 0 < left) (f made broken shed : ℕ) (t : Stand) (k' : Stores) → FeedIs (r .stand) k (barAt bars (r .fed)) f made broken shed t k'
-      → (l : ℕ) → l ≡ leftOf ((advanced f r made broken shed t) .failed) n ((advanced f r made broken shed t) .fed) → Onward s m bars n l (advanced f r made broken shed t) k'
+  by-number : (h : 0 < left) (f made broken shed : ℕ) (t' : Stand) (k' : Stores) → FeedIs t k (barAt bars (r .fed)) f made broken shed t' k'
+      → (l : ℕ) → l ≡ leftOf ((advanced f r made broken shed) .failed) n ((advanced f r made broken shed) .fed) → Onward s m bars n l (advanced f r made broken shed) t' k'
   unfolding advanced leftOf
-  by-number h zero made broken shed t k' f l e =
+  by-number h zero made broken shed t' k' f l e =
       let g = going-on (barAt bars (r .fed)) (o .going) (within h) (here h) f in
       let b = before-end h in
       let q : l ≡ n - (r .fed + 1) = e in
       record { going = g; more = λ z. omega arith; stopped = λ nz. absurd (nz refl) }
-  by-number h (suc c) made broken shed t k' f l e =
+  by-number h (suc c) made broken shed t' k' f l e =
       let nz : suc c ≡ 0 → ⊥ = λ z. omega arith in
-      let same = (f .refused nz) .1 in
+      let same = f .refused nz in
       let d = going-stop (barAt bars (r .fed)) (o .going) (within h) (here h) f nz in
-      record {
-        going = subst (λ (z : Stores). Going s m (rawBars bars) (r .fed) (r .made) (r .broken) (r .shed) (r .stand) z) (sym same) (o .going);
+      subst (λ (z : Stand). Onward s m bars n l (advanced (suc c) r made broken shed) z k') (sym (same .0))
+      (record {
+        going = subst (λ (z : Stores). Going s m (rawBars bars) (r .fed) (r .made) (r .broken) (r .shed) t z) (sym (same .1)) (o .going);
         more = λ z. absurd (nz z);
         stopped = λ q. (e, d);
-      }
+      })
 
-  module _ {f made broken shed l : ℕ} {t : Stand} {k' : Stores} {r' : BatchAnswer} (h : 0 < left) (x : FeedIs (r .stand) k (barAt bars (r .fed)) f made broken shed t k')
-      (next : r' ≡ advanced f r made broken shed t) (e : l ≡ leftOf (r' .failed) n (r' .fed)) where
-    by-next : l ≡ leftOf ((advanced f r made broken shed t) .failed) n ((advanced f r made broken shed t) .fed)
-    by-next = e ∙ ap (λ (z : BatchAnswer). leftOf (z .failed) n (z .fed)) next
+  module _ {f made broken shed l : ℕ} {t' : Stand} {k' : Stores} {r' : Sums} (h : 0 < left) (x : FeedIs t k (barAt bars (r .fed)) f made broken shed t' k')
+      (next : r' ≡ advanced f r made broken shed) (e : l ≡ leftOf (r' .failed) n (r' .fed)) where
+    by-next : l ≡ leftOf ((advanced f r made broken shed) .failed) n ((advanced f r made broken shed) .fed)
+    by-next = e ∙ ap (λ (z : Sums). leftOf (z .failed) n (z .fed)) next
 
     -- after the next bar
-    pub onward-next : Onward s m bars n l r' k'
-    onward-next = subst (λ (z : BatchAnswer). Onward s m bars n l z k') (sym next) (by-number h f made broken shed t k' x l by-next)
-
-    pub clear-on : {c c' : ℕ} → Clear (r .stand) k c
-        → ClearAfter (k' .unfinished .prices) ((r .stand) .strokes) made ((r .stand) .raw) (t .raw) ((r .stand) .unfinished) (t .unfinished) c c' → Clear (r' .stand) k' c'
-    clear-on {c' = c'} w a =
-        subst (λ (z : Stand). Clear z k' c') (fed-stand f r refl x ∙ ap (λ (z : BatchAnswer). z .stand) (sym next)) (clear-next next-reached w x a)
+    pub onward-next : Onward s m bars n l r' t' k'
+    onward-next = subst (λ (z : Sums). Onward s m bars n l z t' k') (sym next) (by-number h f made broken shed t' k' x l by-next)
 
     -- fewer are left
     pub fewer-left : l < left
     unfolding advanced leftOf
     fewer-left = fewer-by f by-next
       where
-        fewer-by : (f : ℕ) → l ≡ leftOf ((advanced f r made broken shed t) .failed) n ((advanced f r made broken shed t) .fed) → l < left
+        fewer-by : (f : ℕ) → l ≡ leftOf ((advanced f r made broken shed) .failed) n ((advanced f r made broken shed) .fed) → l < left
         fewer-by zero e =
             let q = o .more (none-refused h) in
             let u : l ≡ n - (r .fed + 1) = e in
@@ -244,28 +237,28 @@ module _ {s : Stand} {m k : Stores} {bars : RawStore} {n left : ℕ} {r : BatchA
         fewer-by (suc c) e = let u : l ≡ 0 = e in omega arith
 
   -- none is left
-  pub onward-end : (0 < left → ⊥) → BatchFed s m (rawBars bars) r k
+  pub onward-end : (0 < left → ⊥) → BatchFed s m (rawBars bars) (answerOf r t) k
   onward-end nz = end-by (r .failed) refl
     where
-      end-by : (f : ℕ) → r .failed ≡ f → BatchFed s m (rawBars bars) r k
+      end-by : (f : ℕ) → r .failed ≡ f → BatchFed s m (rawBars bars) (answerOf r t) k
       end-by zero z =
           let q = o .more z in
           let c = can .count in
-          subst (λ (f : ℕ). BatchFed s m (rawBars bars) (record { stand = r .stand; fed = r .fed; failed = f; made = r .made; broken = r .broken; shed = r .shed }) k) (sym z)
+          subst (λ (f : ℕ). BatchFed s m (rawBars bars) (record { stand = t; fed = r .fed; failed = f; made = r .made; broken = r .broken; shed = r .shed }) k) (sym z)
           (going-end (o .going) (omega arith))
       end-by (suc f) z = (o .stopped (λ q. omega arith)) .1
 
-pub advance-yes : (r : BatchAnswer) (f made broken shed : ℕ) (t : Stand) → f ≡ 0
-    → _≡_ {A = BatchAnswer} (record { stand = t; fed = r .fed + 1; failed = 0; made = r .made + made; broken = r .broken + broken; shed = r .shed + shed }) (advanced f r made broken shed t)
+pub advance-yes : (r : Sums) (f made broken shed : ℕ) → f ≡ 0
+    → _≡_ {A = Sums} (record { fed = r .fed + 1; failed = 0; made = r .made + made; broken = r .broken + broken; shed = r .shed + shed }) (advanced f r made broken shed)
 unfolding advanced
-advance-yes r zero made broken shed t z = refl
-advance-yes r (suc f) made broken shed t z = let w : ⊥ = omega arith in absurd w
+advance-yes r zero made broken shed z = refl
+advance-yes r (suc f) made broken shed z = let w : ⊥ = omega arith in absurd w
 
-pub advance-no : (r : BatchAnswer) (f made broken shed : ℕ) (t : Stand) → (f ≡ 0 → ⊥)
-    → _≡_ {A = BatchAnswer} (record { stand = r .stand; fed = r .fed; failed = f; made = r .made; broken = r .broken; shed = r .shed }) (advanced f r made broken shed t)
+pub advance-no : (r : Sums) (f made broken shed : ℕ) → (f ≡ 0 → ⊥)
+    → _≡_ {A = Sums} (record { fed = r .fed; failed = f; made = r .made; broken = r .broken; shed = r .shed }) (advanced f r made broken shed)
 unfolding advanced
-advance-no r zero made broken shed t nz = absurd (nz refl)
-advance-no r (suc f) made broken shed t nz = refl
+advance-no r zero made broken shed nz = absurd (nz refl)
+advance-no r (suc f) made broken shed nz = refl
 
 pub left-some : (f n i : ℕ) → f ≡ 0 → n - i ≡ leftOf f n i
 unfolding leftOf
@@ -277,7 +270,7 @@ unfolding leftOf
 left-none zero n i nz = absurd (nz refl)
 left-none (suc f) n i nz = refl
 
-pub same-lengths : {s : Stand} {m k : Stores} {bars : RawStore} {n left : ℕ} {r : BatchAnswer} → CanBatch s m bars n → Onward s m bars n left r k → SameLengths m k
+pub same-lengths : {s t : Stand} {m k : Stores} {bars : RawStore} {n left : ℕ} {r : Sums} → CanBatch s m bars n → Onward s m bars n left r t k → SameLengths m k
 same-lengths can o = calls-lengths (o .going .fed .calls) (from-fresh-sizes (can .begun))
 
 -- ---- the call

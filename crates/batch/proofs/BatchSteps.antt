@@ -11,13 +11,14 @@ use Rattle.strokes.specs.Lent.{Stores}
 use Rattle.sound.specs.declared.fresh_stand.FreshAnswer.{FreshAnswer}
 use Rattle.sound.specs.FreshStand.{freshOf}
 use Rattle.batch.specs.declared.batch.BatchAnswer.{BatchAnswer}
+use Rattle.batch.specs.declared.batch.Sums.{Sums}
 use Rattle.feed.specs.PortCalls.{FeedIs}
 use Rattle.batch.specs.BatchCalls.{BatchFed}
 use Rattle.batch.specs.Code.BatchSteps.{CanBatch, leftOf}
 use Rattle.from_fresh.proofs.FromFreshLaws.{from-fresh-sizes}
 use Rattle.writing.proofs.SameLengths.{SameLengths}
 use Rattle.feed.proofs.PortStays.{calls-lengths}
-use Rattle.batch.proofs.BatchLoop.{Onward, onward-end, can-batch}
+use Rattle.batch.proofs.BatchLoop.{answerOf, Onward, onward-end, can-batch}
 
 -- no column changes its length
 pub batch-lengths : {s : Stand} {m k : Stores} {bars : RawStore} {n : ℕ} {l : List Bar} {r : BatchAnswer} → CanBatch s m bars n → BatchFed s m l r k → SameLengths m k
@@ -32,8 +33,8 @@ unfolding leftOf
 left-over zero n i z h = omega arith
 left-over (suc f) n i z h = let w : ⊥ = omega arith in absurd w
 
-pub loop-done : {s : Stand} {m k : Stores} {bars : RawStore} {n left : ℕ} {r : BatchAnswer} → CanBatch s m bars n → Onward s m bars n left r k → left ≤ 0
-    → BatchFed s m (rawBars bars) r k
+pub loop-done : {s t : Stand} {m k : Stores} {bars : RawStore} {n left : ℕ} {r : Sums} → CanBatch s m bars n → Onward s m bars n left r t k → left ≤ 0
+    → BatchFed s m (rawBars bars) (answerOf r t) k
 loop-done can o h = onward-end can o (λ q. omega arith)
 
 -- ---- the call

@@ -29,27 +29,33 @@ pub struct BatchAnswer {
     pub shed: u64,
 }
 
-// The answer so far with that of one more bar.
-fn advance(r: BatchAnswer, a: FeedAnswer) -> BatchAnswer
-    requires { ⌜ CanAdvance r (a .failed) (a .made) (a .broken) (a .shed) ⌝ }
-    ensures { λ s. ⌜ s ≡ advanced (a .failed) r (a .made) (a .broken) (a .shed) (a .stand) ⌝ }
+// The answer but for the stand: a bar then copies the stand once, and not with every sum.
+struct Sums {
+    fed: usize,
+    failed: u64,
+    made: u64,
+    broken: u64,
+    shed: u64,
+}
+
+// The sums so far with the answer to one more bar: the number of the question that was answered
+// "no", or 0, and the strokes made, broken and shed.
+fn advance(r: Sums, number: u64, made: u64, broken: u64, shed: u64) -> Sums
+    requires { ⌜ CanAdvance r number made broken shed ⌝ }
+    ensures { λ s. ⌜ s ≡ advanced number r made broken shed ⌝ }
 {
-    if a.failed == 0 {
-        let stand = a.stand;
-        return BatchAnswer {
-            stand,
+    if number == 0 {
+        return Sums {
             fed: r.fed + 1,
             failed: 0,
-            made: r.made + a.made,
-            broken: r.broken + a.broken,
-            shed: r.shed + a.shed,
+            made: r.made + made,
+            broken: r.broken + broken,
+            shed: r.shed + shed,
         };
     }
-    let stand = r.stand;
-    BatchAnswer {
-        stand,
+    Sums {
         fed: r.fed,
-        failed: a.failed,
+        failed: number,
         made: r.made,
         broken: r.broken,
         shed: r.shed,
@@ -107,7 +113,7 @@ fn feed_next(
 }
 
 // How many of n bars are to be fed yet.
-fn bars_left(r: BatchAnswer, n: usize) -> usize
+fn bars_left(r: Sums, n: usize) -> usize
     ensures { λ k. ⌜ k ≡ leftOf (r .failed) n (r .fed) ⌝ }
 {
     let fed = r.fed;
@@ -146,8 +152,8 @@ fn feed_from(
     requires { ⌜ CanBatch stand (held rt ri rp ut ui up uc ue st si sp sc se fs fp) (rawHeld bt bi bp) n ⌝ }
     ensures { λ r. ⌜ BatchFed stand (before rt ri rp ut ui up uc ue st si sp sc se fs fp) (rawBars (rawBefore bt bi bp)) r (after rt ri rp ut ui up uc ue st si sp sc se fs fp) ⌝ }
 {
-    let mut r = BatchAnswer {
-        stand,
+    let mut kept = stand;
+    let mut r = Sums {
         fed: 0,
         failed: 0,
         made: 0,
@@ -158,9 +164,11 @@ fn feed_from(
     let mut left = n;
     while 0 < left {
         let at = r.fed;
-        let stand = r.stand;
+        let strokes = kept.strokes;
+        let raw = kept.raw;
+        let unfinished = kept.unfinished;
         let a = feed_next(
-            stand,
+            kept,
             rt,
             ri,
             rp,
@@ -182,21 +190,29 @@ fn feed_from(
             at,
             clear,
         );
-        let fed = a.stand;
+        // a bar that is refused hands back the stand that it was given
+        kept = a.stand;
         clear = clear_after(
-            stand.strokes,
+            strokes,
             a.made,
-            stand.raw,
-            fed.raw,
-            stand.unfinished,
-            fed.unfinished,
+            raw,
+            kept.raw,
+            unfinished,
+            kept.unfinished,
             up,
             clear,
         );
-        r = advance(r, a);
+        r = advance(r, a.failed, a.made, a.broken, a.shed);
         left = bars_left(r, n);
     }
-    r
+    BatchAnswer {
+        stand: kept,
+        fed: r.fed,
+        failed: r.failed,
+        made: r.made,
+        broken: r.broken,
+        shed: r.shed,
+    }
 }
 
 fn fewer(a: usize, b: usize) -> usize
