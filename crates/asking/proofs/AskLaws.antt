@@ -25,6 +25,7 @@ use Rattle.machine.specs.declared.Direction.the-variants.{Up, Down}
 use Rattle.machine.specs.Feed.{isLater}
 use Rattle.machine.specs.FeedQuestions.{fewerIf, orElse, firstOf}
 use Rattle.strokes.specs.declared.Stand.{Stand}
+use Rattle.strokes.specs.StateRead.{barCounts, total}
 use Rattle.strokes.specs.declared.strokes_store.LastStroke.{LastStroke}
 use Rattle.strokes.specs.Code.BarSteps.{mergedAgain}
 use Rattle.strokes.specs.Code.StrokeSteps.{lastRead, lastBars, LastStands}
@@ -107,7 +108,7 @@ unfolding lastIn
 last-by s ts ps zero h = absurd (h refl)
 last-by s ts ps (suc n) h = refl
 
-pub last-some : (s : Stand) (ts : List ℤ) (ps : List (List Float)) (k : LastStroke) (m : Mark) (x : ℤ) → x ≡ k .time → HasLast s ts ps → (s .strokes ≡ 0 → ⊥) → k ≡ lastRead s ts ps → m ≡ markFor (k .direction)
+pub last-some : {z : ℕ} (s : Stand) (ts : List ℤ) (ps : List (List Float)) (k : LastStroke) (m : Mark) (x : ℤ) → x ≡ k .time → HasLast s ts ps z → (s .strokes ≡ 0 → ⊥) → k ≡ lastRead s ts ps → m ≡ markFor (k .direction)
     → (record { mark = m; high = k .high; low = k .low; bars = k .bars; time = x } ≡ lastIn (s .strokes) s ts ps) × (2 ≤ k .bars) × (k .bars < 4294967296)
 unfolding lastFrom lastRead lastBars
 last-some s ts ps k m x reads h kept e g =
@@ -157,7 +158,7 @@ module _ (u w : RawStore) (K k n m : ℕ) (l : List Bar) (h : SizedRaw u K) (fit
 -- ---- a bar is tried
 
 -- the bars l, in the store u and a tail w of at most 103 places
-module _ (s : Stand) (u : RawStore) (ts : List ℤ) (ps : List (List Float)) (h : CanPlan s u ts ps) (w : RawStore) (k n m : ℕ) (l : List Bar) (short : k ≤ 103) (t : HasTail u w k n m l)
+module _ (s : Stand) (u : RawStore) (ts : List ℤ) (ps : List (List Float)) {z : ℕ} (h : CanPlan s u ts ps z) (w : RawStore) (k n m : ℕ) (l : List Bar) (short : k ≤ 103) (t : HasTail u w k n m l)
     (front : n ≤ s .unfinished) where
   pub try-columns : InColumns (u .times) (w .times) (u .prices) (w .prices) n m
   try-columns =
@@ -182,8 +183,8 @@ module _ (s : Stand) (u : RawStore) (ts : List ℤ) (ps : List (List Float)) (h 
         found = omega arith;
       }
 
-module _ (later : Bool) (s : Stand) (r : RawStore) (u : MergedStore) (ts : List ℤ) (ps : List (List Float)) (h : CanTry later s r u ts ps) (b : Bar) where
-  pub can-plan : CanPlan s (rawPart u) ts ps
+module _ (later : Bool) (s : Stand) (r : RawStore) (u : MergedStore) (ts : List ℤ) (ps : List (List Float)) {z : ℕ} (h : CanTry later s r u ts ps z) (b : Bar) where
+  pub can-plan : CanPlan s (rawPart u) ts ps z
   can-plan = record { unfinished = h .unfinished .raw; fits = h .fits; small = h .small; last = h .last }
 
   tried-with : (t : Tried) (l : List Bar) → l ≡ barsOnly (triedBars later s r u b) → TriedWith s l ts ps t → TriedOf later s r u ts ps b t
@@ -202,20 +203,20 @@ module _ (later : Bool) (s : Stand) (r : RawStore) (u : MergedStore) (ts : List 
       tried-with t (mergeBars (take (s .unfinished) (rawBars (rawPart u))) b)
       (later-bars u (length (u .times)) (s .unfinished) b (h .unfinished) ∙ ap (λ (x : Bool). barsOnly (triedBars x s r u b)) (sym e)) q
 
-  pub can-again : later ≡ false → CanTry false s r u ts ps
-  can-again e = subst (λ (x : Bool). CanTry x s r u ts ps) e h
+  pub can-again : later ≡ false → CanTry false s r u ts ps z
+  can-again e = subst (λ (x : Bool). CanTry x s r u ts ps z) e h
 
   pub tried-again : (t : Tried) → later ≡ false → TriedOf false s r u ts ps b t → TriedOf later s r u ts ps b t
   tried-again t e q = subst (λ (x : Bool). TriedOf x s r u ts ps b t) (sym e) q
 
 -- a later bar's tail has three places or more
-pub later-tail : (s : Stand) (u t : RawStore) (ts : List ℤ) (ps : List (List Float)) → CanPlan s u ts ps → SizedRaw t 3 → CanTail u t (length (u .times)) (length (t .times)) (s .unfinished) 1
+pub later-tail : {z : ℕ} (s : Stand) (u t : RawStore) (ts : List ℤ) (ps : List (List Float)) → CanPlan s u ts ps z → SizedRaw t 3 → CanTail u t (length (u .times)) (length (t .times)) (s .unfinished) 1
 later-tail s u t ts ps h z =
     let e = z .times in
     record { store = h .unfinished; tail = record { times = refl; ids = z .ids ∙ sym e; prices = z .prices ∙ sym e }; kept = h .fits; room = omega arith }
 
 -- a bar with the last time
-module _ (s : Stand) (r : RawStore) (u : MergedStore) (ts : List ℤ) (ps : List (List Float)) (h : CanTry false s r u ts ps) (b : Bar) where
+module _ (s : Stand) (r : RawStore) (u : MergedStore) (ts : List ℤ) (ps : List (List Float)) {z : ℕ} (h : CanTry false s r u ts ps z) (b : Bar) where
   pub again-tail : (t : RawStore) → SizedRaw t 103 → CanMergeTail u t (length (u .times)) (s .unfinished)
   again-tail t z = record { store = h .unfinished; tail = z; fits = h .fits; again = h .again refl }
 
@@ -233,6 +234,6 @@ pub mark-down : (d : Direction) → d ≡ Down → G ≡ markFor d
 unfolding markFor
 mark-down d e = ap markFor (sym e)
 
--- what last_stroke asks
-pub last-asks : (s : Stand) (ts : List ℤ) (ps : List (List Float)) → HasLast s ts ps → (s .strokes ≡ 0 → ⊥) → LastStands s (length ts) × (length ps ≡ length ts)
-last-asks s ts ps h kept = (h .stands (omega (arith, kept)), h .even)
+-- what last_stroke_within asks
+pub last-asks : {z : ℕ} (s : Stand) (ts : List ℤ) (ps : List (List Float)) → HasLast s ts ps z → (s .strokes ≡ 0 → ⊥) → LastStands s (length ts) × ((length ps ≡ length ts) × (z ≡ total (barCounts s)))
+last-asks s ts ps h kept = (h .stands (omega (arith, kept)), (h .even, h .sum))

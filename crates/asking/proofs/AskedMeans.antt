@@ -154,8 +154,8 @@ module _ (s : Stand) (m : Stores) (h : Facts s m) (lb : length (s .bars) ≡ 65)
         plan = λ z. absurd (refuses z);
       }
 
-  pub can-try : CanTry (e .later) s (m .raw) (m .unfinished) (m .strokes .times) (m .fractals .prices)
-  can-try =
+  pub can-try : (used : ℕ) → used ≡ total (barCounts s) → CanTry (e .later) s (m .raw) (m .unfinished) (m .strokes .times) (m .fractals .prices) used
+  can-try used sum =
       let r = h .rising-raw in
       let ra = r .sized .times in
       let u = h .unfinished in
@@ -175,7 +175,7 @@ module _ (s : Stand) (m : Stores) (h : Facts s m) (lb : length (s .bars) ≡ 65)
         again = λ z.
             (let l = h .last-has (some-raw (rawBars (m .raw)) (s .raw) b (sym (early .later) ∙ z)) in
             record { kept = l .kept; some = l .some; most = l .most });
-        last = record { stands = λ one. subst (LastStands s) (sym sa) (h .last-stands one); even = fa ∙ sym sa; few = omega arith };
+        last = record { stands = λ one. subst (LastStands s) (sym sa) (h .last-stands one); even = fa ∙ sym sa; few = omega arith; sum = sum };
       }
 
   strokes-are : length (keptStrokes s (m .strokes) (m .fractals)) ≡ s .strokes

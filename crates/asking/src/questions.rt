@@ -28,7 +28,7 @@ use bars::Bar;
 use machine::Direction;
 use machine::Mark;
 use strokes::Stand;
-use strokes::last_stroke;
+use strokes::last_stroke_within;
 use strokes::total_bars;
 
 // The first of questions 5 to 12 that is answered "no", or 0. Where it is 0: whether the bar is later than the newest raw bar, and what
@@ -100,8 +100,8 @@ fn mark_for(d: Direction) -> Mark
 }
 
 // Of the last stroke that is kept, if there is one, what its break goes by.
-fn last_of(stand: Stand, st: &[i64], fp: &[[f64; 18]]) -> Last
-    requires { ⌜ HasLast stand (now st) (now fp) ⌝ }
+fn last_of(stand: Stand, st: &[i64], fp: &[[f64; 18]], used: usize) -> Last
+    requires { ⌜ HasLast stand (now st) (now fp) used ⌝ }
     ensures { λ r. ⌜ (r ≡ lastIn (stand .strokes) stand (now (st .entry)) (now (fp .entry))) × (2 ≤ r .bars) × (r .bars < 4294967296) ⌝ }
 {
     if stand.strokes == 0 {
@@ -113,7 +113,7 @@ fn last_of(stand: Stand, st: &[i64], fp: &[[f64; 18]]) -> Last
             time: 0,
         };
     }
-    let k = last_stroke(stand, st, fp);
+    let k = last_stroke_within(stand, st, fp, used);
     let d = k.direction;
     let mark = mark_for(d);
     Last {
@@ -136,14 +136,15 @@ fn plan_with(
     rows: usize,
     st: &[i64],
     fp: &[[f64; 18]],
+    used: usize,
     clear: usize,
 ) -> Plan
-    requires { ⌜ InColumns (now ut) (now tt) (now up) (now tp) base rows ⌝ ∗ ⌜ HasLast stand (now st) (now fp) ⌝ ∗ ⌜ NoFractals (now up) clear ⌝ }
+    requires { ⌜ InColumns (now ut) (now tt) (now up) (now tp) base rows ⌝ ∗ ⌜ HasLast stand (now st) (now fp) used ⌝ ∗ ⌜ NoFractals (now up) clear ⌝ }
     ensures { λ r. ⌜ (r ≡ planOf (stand .strokes) (stand .minimum) (lastIn (stand .strokes) stand (now (st .entry)) (now (fp .entry))) (candles (view base (now (ut .entry)) rows (now (tt .entry))) (view base (now (up .entry)) rows (now (tp .entry))))) × InView r (base + rows) ⌝ }
 {
     let kept = stand.strokes;
     let minimum = stand.minimum;
-    let last = last_of(stand, st, fp);
+    let last = last_of(stand, st, fp, used);
     plan_of(ut, tt, up, tp, base, rows, kept, minimum, last, clear)
 }
 
@@ -156,9 +157,10 @@ fn try_later(
     st: &[i64],
     fp: &[[f64; 18]],
     b: Bar,
+    used: usize,
     clear: usize,
 ) -> Tried
-    requires { ⌜ CanPlan stand (rawHeld ut ui up) (now st) (now fp) ⌝ ∗ ⌜ NoFractals (now up) clear ⌝ }
+    requires { ⌜ CanPlan stand (rawHeld ut ui up) (now st) (now fp) used ⌝ ∗ ⌜ NoFractals (now up) clear ⌝ }
     ensures { λ r. ⌜ TriedWith stand (mergeBars (take (stand .unfinished) (rawBars (rawBefore ut ui up))) b) (now (st .entry)) (now (fp .entry)) r ⌝ }
 {
     let mut tt = [0i64; 3];
@@ -168,7 +170,7 @@ fn try_later(
     let tail = tail_later(ut, ui, up, count, &mut tt, &mut ti, &mut tp, b);
     let base = tail.base;
     let rows = tail.rows;
-    let plan = plan_with(stand, ut, up, &tt, &tp, base, rows, st, fp, clear);
+    let plan = plan_with(stand, ut, up, &tt, &tp, base, rows, st, fp, used, clear);
     let total = base + rows;
     Tried { plan, total }
 }
@@ -187,9 +189,10 @@ fn try_again(
     st: &[i64],
     fp: &[[f64; 18]],
     b: Bar,
+    used: usize,
     clear: usize,
 ) -> Tried
-    requires { ⌜ CanTry false stand (rawHeld rt ri rp) (mergedHeld ut ui up uc ue) (now st) (now fp) ⌝ ∗ ⌜ NoFractals (now up) clear ⌝ }
+    requires { ⌜ CanTry false stand (rawHeld rt ri rp) (mergedHeld ut ui up uc ue) (now st) (now fp) used ⌝ ∗ ⌜ NoFractals (now up) clear ⌝ }
     ensures { λ r. ⌜ TriedOf false stand (rawBefore rt ri rp) (mergedBefore ut ui up uc ue) (now (st .entry)) (now (fp .entry)) b r ⌝ }
 {
     let mut tt = [0i64; 103];
@@ -215,7 +218,7 @@ fn try_again(
     );
     let base = tail.base;
     let rows = tail.rows;
-    let plan = plan_with(stand, ut, up, &tt, &tp, base, rows, st, fp, clear);
+    let plan = plan_with(stand, ut, up, &tt, &tp, base, rows, st, fp, used, clear);
     let total = base + rows;
     Tried { plan, total }
 }
@@ -235,15 +238,31 @@ fn try_bar(
     fp: &[[f64; 18]],
     later: bool,
     b: Bar,
+    used: usize,
     clear: usize,
 ) -> Tried
-    requires { ⌜ CanTry later stand (rawHeld rt ri rp) (mergedHeld ut ui up uc ue) (now st) (now fp) ⌝ ∗ ⌜ NoFractals (now up) clear ⌝ }
+    requires { ⌜ CanTry later stand (rawHeld rt ri rp) (mergedHeld ut ui up uc ue) (now st) (now fp) used ⌝ ∗ ⌜ NoFractals (now up) clear ⌝ }
     ensures { λ r. ⌜ TriedOf later stand (rawBefore rt ri rp) (mergedBefore ut ui up uc ue) (now (st .entry)) (now (fp .entry)) b r ⌝ }
 {
     if later {
-        return try_later(stand, ut, ui, up, st, fp, b, clear);
+        return try_later(stand, ut, ui, up, st, fp, b, used, clear);
     }
-    try_again(stand, rt, ri, rp, ut, ui, up, uc, ue, st, fp, b, clear)
+    try_again(
+        stand,
+        rt,
+        ri,
+        rp,
+        ut,
+        ui,
+        up,
+        uc,
+        ue,
+        st,
+        fp,
+        b,
+        used,
+        clear,
+    )
 }
 
 // Questions 5 to 12, of a stand that is sound: question 4 has passed. For the feed above, which proves just that before it calls; no other caller needs it.
@@ -283,6 +302,9 @@ pub fn ask(
             plan,
         };
     }
+    let counts = stand.bars;
+    let kept = stand.strokes;
+    let used = total_bars(counts, kept);
     let tried = try_bar(
         stand,
         rt,
@@ -297,13 +319,11 @@ pub fn ask(
         fp,
         later,
         b,
+        used,
         clear,
     );
     let plan = tried.plan;
     let total = tried.total;
-    let counts = stand.bars;
-    let kept = stand.strokes;
-    let used = total_bars(counts, kept);
     let no = refused(plan, total, rooms.unfinished, used, rooms.strokes);
     Asked {
         failed: no,

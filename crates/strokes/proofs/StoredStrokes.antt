@@ -1,6 +1,6 @@
 -- The strokes that a stand and its stroke store hold, after the oldest was shed and after one was made.
 -- Assumes nothing.
-use Prim.Native.Nat.{ℕ, suc, _+_, _-_, _*_, _/_, _≤_, _<_}
+use Prim.Native.Nat.{ℕ, zero, suc, _+_, _-_, _*_, _/_, _≤_, _<_}
 use native.Mathlib.Nat.{zero-add}
 use native.Mathlib.Numerals.{add-one}
 use native.Mathlib.Omega.{arith}
@@ -742,6 +742,22 @@ module _ (s : Stand) (k : MergedStore) (f : FractalStore) (h : Kept s k f) (g : 
       }
 
 -- the same of the numbers that the code has computed
+-- the sum of the first n counts is that of those before the last of them, and the last
+total-suc : (n : ℕ) (l : List ℕ) → total (take (suc n) l) ≡ total (take n l) + getD l n 0
+unfolding total
+total-suc zero [] = omega arith
+total-suc zero (x ∷ l) = omega arith
+total-suc (suc n) [] = omega arith
+total-suc (suc n) (x ∷ l) = omega (arith, total-suc n l)
+
+pub last-sums : (l : List ℕ) (n : ℕ) → 1 ≤ n → total (take n l) ≡ total (take (n - 1) l) + getD l (n - 1) 0
+last-sums l zero h = absurd (omega arith)
+last-sums l (suc n) h = let e : suc n - 1 ≡ n = omega arith in rw e (total-suc n l)
+
+-- where the bars of the last stroke begin, by where they end
+pub last-place-is : (l : List ℕ) (n u : ℕ) → 1 ≤ n → u ≡ total (take n l) → u - getD l (n - 1) 0 ≡ total (take (n - 1) l)
+last-place-is l n u h e = omega (arith, last-sums l n h)
+
 pub last-done : (s : Stand) (ts : List ℤ) (ps : List (List Float)) (r : LastStroke) (t i : ℕ)
     → t ≡ total (take (s .strokes - 1) (s .bars))
     → i ≡ 2 * (getD (s .fractals) (s .strokes - 1) 0 / 2) - 1

@@ -15,6 +15,7 @@ pub use raw_store::count_before;
 pub use strokes_store::LastStroke;
 pub use strokes_store::Written;
 pub use strokes_store::last_stroke;
+pub use strokes_store::last_stroke_within;
 pub use strokes_store::total_bars;
 
 // How many bars each lent store takes.

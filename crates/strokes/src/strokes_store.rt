@@ -336,15 +336,16 @@ fn windows_end(first: usize, bars: usize, n: usize) -> usize
 
 // ---- the last stroke
 
-pub fn last_stroke(stand: Stand, st: &[i64], fp: &[[f64; 18]]) -> LastStroke
-    requires { ⌜ LastStands stand (length (now st)) ⌝ ∗ ⌜ length (now fp) ≡ length (now st) ⌝ }
+// The last stroke, where the strokes' bars take up `used` places: a feed adds them up once.
+pub fn last_stroke_within(stand: Stand, st: &[i64], fp: &[[f64; 18]], used: usize) -> LastStroke
+    requires { ⌜ LastStands stand (length (now st)) ⌝ ∗ ⌜ length (now fp) ≡ length (now st) ⌝ ∗ ⌜ used ≡ total (barCounts stand) ⌝ }
     ensures { λ r. ⌜ r ≡ lastRead stand (now (st .entry)) (now (fp .entry)) ⌝ }
 {
     let counts = stand.bars;
     let fractals = stand.fractals;
     let n = stand.strokes - 1;
-    let place = total_bars(counts, n);
     let bars = counts[n] as usize;
+    let place = used - bars;
     let m = fractals[n] as usize;
     let e = end_index(m);
     let i = place + e;
@@ -363,6 +364,16 @@ pub fn last_stroke(stand: Stand, st: &[i64], fp: &[[f64; 18]]) -> LastStroke
         time,
         place,
     }
+}
+
+pub fn last_stroke(stand: Stand, st: &[i64], fp: &[[f64; 18]]) -> LastStroke
+    requires { ⌜ LastStands stand (length (now st)) ⌝ ∗ ⌜ length (now fp) ≡ length (now st) ⌝ }
+    ensures { λ r. ⌜ r ≡ lastRead stand (now (st .entry)) (now (fp .entry)) ⌝ }
+{
+    let counts = stand.bars;
+    let n = stand.strokes;
+    let used = total_bars(counts, n);
+    last_stroke_within(stand, st, fp, used)
 }
 
 impl Stand {

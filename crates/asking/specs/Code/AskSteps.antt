@@ -20,6 +20,7 @@ use Rattle.machine.specs.Feed.{isLater}
 use Rattle.machine.specs.FeedQuestions.{fewerIf, orElse, firstOf}
 use Rattle.strokes.specs.declared.Stand.{Stand}
 use Rattle.strokes.specs.declared.strokes_store.LastStroke.{LastStroke}
+use Rattle.strokes.specs.StateRead.{barCounts, total}
 use Rattle.strokes.specs.Code.StrokeSteps.{lastRead, LastStands}
 use Rattle.check_bi.specs.declared.check_fx.Candle.{Candle}
 use Rattle.check_bi.specs.Code.Scan.{candleOf}
@@ -60,11 +61,12 @@ unfolding lastOf lastFrom lastRead
 lastIn zero s ts ps = lastOf none
 lastIn (suc n) s ts ps = lastFrom (lastRead s ts ps)
 
--- where a stroke is kept, its rows stand in these columns
-pub record HasLast (s : Stand) (ts : List ℤ) (ps : List (List Float)) : Type 0 where
+-- where a stroke is kept, its rows stand in these columns, and the strokes' bars take up so many places
+pub record HasLast (s : Stand) (ts : List ℤ) (ps : List (List Float)) (used : ℕ) : Type 0 where
   pub stands : 1 ≤ s .strokes → LastStands s (length ts)
   pub even : length ps ≡ length ts
   pub few : length ts ≤ 65536
+  pub sum : used ≡ total (barCounts s)
 
 -- ---- the plan
 
@@ -77,11 +79,11 @@ pub record InColumns (ts us : List ℤ) (ps qs : List (List Float)) (n m : ℕ) 
   pub few : n + m < 4294967296
 
 -- what the plan asks of the stand, of the unfinished bars and of the columns that the last stroke is read from
-pub record CanPlan (s : Stand) (u : RawStore) (ts : List ℤ) (ps : List (List Float)) : Type 0 where
+pub record CanPlan (s : Stand) (u : RawStore) (ts : List ℤ) (ps : List (List Float)) (used : ℕ) : Type 0 where
   pub unfinished : SizedRaw u (length (u .times))
   pub fits : s .unfinished ≤ length (u .times)
   pub small : length (u .times) ≤ 65536
-  pub last : HasLast s ts ps
+  pub last : HasLast s ts ps used
 
 -- of a bar, what the search for fractals reads
 unfoldable pub barCandle : Bar → Candle
@@ -94,13 +96,13 @@ pub record TriedWith (s : Stand) (l : List Bar) (ts : List ℤ) (ps : List (List
   pub found : t .plan .found .bars < 4294967296
 
 -- what trying a bar asks of the stand and of the columns that are read
-pub record CanTry (later : Bool) (s : Stand) (r : RawStore) (u : MergedStore) (ts : List ℤ) (ps : List (List Float)) : Type 0 where
+pub record CanTry (later : Bool) (s : Stand) (r : RawStore) (u : MergedStore) (ts : List ℤ) (ps : List (List Float)) (used : ℕ) : Type 0 where
   pub raw : NamedRaw r (length (r .times)) (s .raw)
   pub unfinished : SizedMerged u (length (u .times))
   pub fits : s .unfinished ≤ length (u .times)
   pub small : length (u .times) ≤ 65536
   pub again : later ≡ false → LastOf u (s .unfinished)
-  pub last : HasLast s ts ps
+  pub last : HasLast s ts ps used
 
 -- the unfinished bars once b has come
 unfoldable pub triedBars : Bool → Stand → RawStore → MergedStore → Bar → List Merged
