@@ -1,4 +1,4 @@
--- Laws that the questions' functions cite: the tests asked one after the other, and minus zero by its reciprocal. Assumes nothing.
+-- Laws that the questions' functions cite: the tests asked one after the other. Assumes nothing.
 use mathlib.Core.Path.{_≡_, refl, ap, sym, _∙_}
 use mathlib.Core.Bool.{Bool, true, false, not, _&&_, _||_, cond, Bool·beq, false≢true}
 use mathlib.Core.Option.{Option, none, some}

@@ -47,11 +47,15 @@ pub fn prices_in_range(b: Bar) -> bool
     is_price(b.low)
 }
 
-// Zero or more, and no minus zero, whose reciprocal is below zero.
+// Zero or more, and no minus zero. The sign is the highest of a float's 64 bits, so the bits of a float without a minus
+// sign, read as a number, are below 2^63.
 pub fn from_zero(x: f64) -> bool
     ensures { λ r. ⌜ r ≡ fromZero x ⌝ }
 {
-    both(0.0 <= x, 0.0 <= 1.0 / x)
+    if 0.0 <= x {
+        return f64::to_bits(x) < 9223372036854775808;
+    }
+    false
 }
 
 // A volume or an amount from 0 to 2^50.
