@@ -2,14 +2,14 @@
 // branch, and looks only at the columns that its clause speaks of. The scans of times stop at the
 // first that fails: without a branch, a compare of two i64s takes several instructions.
 ghost use mathlib.Core.Path.{_≡_};
-ghost use mathlib.Core.Bool.{false, _&&_};
+ghost use mathlib.Core.Bool.{false, _&&_, cond};
 ghost use mathlib.Core.List.{[], _∷_, map};
 ghost use Prim.Native.Nat.{_+_, _-_, _≤_, _<_, min};
 ghost use lib.IntN.{pos};
 ghost use lib.ListN.{length, take, drop, getD};
 ghost use lib.Signed.{ltZ};
 ghost use lib.Dec.{T, leb};
-ghost use lib.Ieee.{nan, le};
+ghost use lib.Ieee.{nan, lt, le};
 ghost use Rattle.bars.specs.Lists.{every, last};
 ghost use Rattle.bars.specs.Questions.{isPrice};
 ghost use Rattle.stores.specs.Code.StoreRows.{rising, placeOf};
@@ -23,7 +23,6 @@ ghost use Rattle.stores.specs.Lent.{rawBefore, mergedBefore};
 use super::fresh_stand::rooms_fit;
 use bars::both;
 use bars::from_zero;
-use bars::is_price;
 use bars::is_volume;
 use strokes::Rooms;
 use strokes::Stand;
@@ -84,22 +83,39 @@ pub fn times_pass(ts: &[i64]) -> bool
 
 // ---- rows of prices
 
-// Two prices, low at most high: high is not too small where low is not, and low not too large where
-// high is not.
-fn is_range(low: f64, high: f64) -> bool
-    ensures { λ r. ⌜ r ≡ ((isPrice high && isPrice low) && le low high) ⌝ }
+// The smaller of the two, and y where one of them is NaN.
+fn smaller(x: f64, y: f64) -> f64
+    ensures { λ r. ⌜ r ≡ cond (lt x y) x y ⌝ }
 {
-    both(
-        both(0.00000095367431640625 <= low, high <= 1073741824.0),
-        low <= high,
-    )
+    if x < y {
+        return x;
+    }
+    y
 }
 
-// Questions 6 and 8 of a bar.
+// The larger of the two, and x where one of them is NaN.
+fn larger(x: f64, y: f64) -> f64
+    ensures { λ r. ⌜ r ≡ cond (lt x y) y x ⌝ }
+{
+    if x < y {
+        return y;
+    }
+    x
+}
+
+// Questions 6 and 8 of a bar. The smallest price alone is asked whether it is too small, and the
+// largest whether it is too large: the processor picks one of two floats by a single instruction.
+// No NaN is lost on the way: one in open comes out of `larger` and one in close out of `smaller`,
+// high and low do not take its place, and a NaN in high or low fails the last test.
 fn prices_pass(open: f64, close: f64, high: f64, low: f64) -> bool
     ensures { λ r. ⌜ r ≡ ((isPrice «open» && isPrice close) && ((isPrice high && isPrice low) && le low high)) ⌝ }
 {
-    both(both(is_price(open), is_price(close)), is_range(low, high))
+    let smallest = smaller(low, smaller(open, close));
+    let largest = larger(larger(open, close), high);
+    both(
+        both(0.00000095367431640625 <= smallest, largest <= 1073741824.0),
+        low <= high,
+    )
 }
 
 fn raw_row(p: [f64; 6]) -> bool

@@ -1,34 +1,47 @@
 use mathlib.Core.Bool.{_&&_}
-use mathlib.Core.Path.{_∙_}
+use mathlib.Core.Path.{_∙_, ap}
+use lib.Ieee.{ofBits, le}
+use Rattle.bars.specs.Questions.{leastPrice, mostPrice}
+use Rattle.sound.proofs.SoundRows.{smallerOf, largerOf, three-tests}
 use borrow.Author.Needs.{needs}
 use Rattle.sound.proofs.soundness.prices_pass.Statement.{statement}
 use Rattle.sound.proofs.soundness.prices_pass.Tie as tie
 
-is-price-requires : tie.Need-is-price-requires
-is-price-requires c κs = search needs
+smaller-requires : tie.Need-smaller-requires
+smaller-requires c κs = search needs
 
-is-price-requires-2 : tie.Need-is-price-requires-2
-is-price-requires-2 c κs = search needs
+smaller-requires-2 : tie.Need-smaller-requires-2
+smaller-requires-2 c κs = search needs
+
+larger-requires : tie.Need-larger-requires
+larger-requires c κs = search needs
+
+larger-requires-2 : tie.Need-larger-requires-2
+larger-requires-2 c κs = search needs
 
 both-requires : tie.Need-both-requires
 both-requires c κs = search needs
-
-is-range-requires : tie.Need-is-range-requires
-is-range-requires c κs = search needs
 
 both-requires-2 : tie.Need-both-requires-2
 both-requires-2 c κs = search needs
 
 returns : tie.Need-returns
-returns c = c .both2 .ensures ∙ (λ j. (c .before .before .both .ensures ∙ (λ i. c .before .before .before .before .is-price .ensures i && c .before .before .before .is-price2 .ensures i)) j && c .before .is-range .ensures j)
+unfolding leastPrice mostPrice ofBits
+returns c =
+    let picks = c .before .before in
+    let a = picks .before .before .before .before .args in
+    let s = picks .before .before .smaller2 .ensures ∙ ap (smallerOf (a .low)) (picks .before .before .before .smaller .ensures) in
+    let g = picks .larger2 .ensures ∙ ap (λ b. largerOf b (a .high)) (picks .before .larger .ensures) in
+    c .both2 .ensures ∙ (λ j. (c .before .both .ensures ∙ (λ i. le leastPrice (s i) && le (g i) mostPrice)) j && le (a .low) (a .high)) ∙ three-tests (a .«open») (a .close) (a .high) (a .low)
 
 pub prices-pass-spec : {M : Type 1} → statement M
 prices-pass-spec =
     tie.close
     (tie.spec
-    is-price-requires
-    is-price-requires-2
+    smaller-requires
+    smaller-requires-2
+    larger-requires
+    larger-requires-2
     both-requires
-    is-range-requires
     both-requires-2
     returns)
