@@ -136,36 +136,33 @@ pub middle-end : (v : List (List ℤ)) (i : ℕ) (ok r : Bool) → length v ≤ 
 unfolding middleTimes
 middle-end v i ok r h g = rise-end (map (λ t. getD t 1 (pos 0)) v) i ok r (omega (arith, length-map v (λ t. getD t 1 (pos 0)))) g
 
--- marks that alternate
-alternating-at : (v : List (List Float)) (i : ℕ) → i + 1 < length v
-    → alternating (map topRow (drop i v)) ≡ (differ (topRow (getD v i [])) (topRow (getD v (i + 1) [])) && alternating (map topRow (drop (i + 1) v)))
+-- marks that alternate: top is the mark before place i
+pub alternating-start : (v : List (List Float)) (top : Bool) → 0 < length v → top ≡ topRow (getD v 0 []) → alternating (top ∷ map topRow (drop 1 v)) ≡ alternating (map topRow v)
+alternating-start [] top h e = absurd (omega arith)
+alternating-start (a ∷ v) top h e = ap (λ (t : Bool). alternating (t ∷ map topRow v)) e
+
+pub alternating-turn : (v : List (List Float)) (i : ℕ) (top next ok ok' x r : Bool) → i < length v → next ≡ topRow (getD v i []) → x ≡ differ top next → ok' ≡ (ok && x)
+    → (ok && alternating (top ∷ map topRow (drop i v))) ≡ r → (ok' && alternating (next ∷ map topRow (drop (i + 1) v))) ≡ r
 unfolding alternating
-alternating-at v i h =
-    let a : i < length v = omega arith in
-    let b : suc i < length v = omega arith in
+alternating-turn v i top next ok ok' x r h e d f g =
     let c : i + 1 ≡ suc i = omega arith in
-    rw (c, drop-cons v i [] a, drop-cons v (suc i) [] b)
+    let k : alternating (top ∷ map topRow (drop i v)) ≡ (differ top next && alternating (next ∷ map topRow (drop (i + 1) v))) = rw (c, drop-cons v i [] h, e) in
+    ap (λ (y : Bool). y && alternating (next ∷ map topRow (drop (i + 1) v))) (f ∙ ap (λ (y : Bool). ok && y) d)
+    ∙ sym (and-assoc ok (differ top next) (alternating (next ∷ map topRow (drop (i + 1) v)))) ∙ sym (ap (λ (y : Bool). ok && y) k) ∙ g
 
-pub alternating-turn : (v : List (List Float)) (i : ℕ) (ok ok' x r : Bool) → i + 1 < length v
-    → x ≡ differ (topRow (getD v i [])) (topRow (getD v (i + 1) [])) → ok' ≡ (ok && x)
-    → (ok && alternating (map topRow (drop i v))) ≡ r → (ok' && alternating (map topRow (drop (i + 1) v))) ≡ r
-alternating-turn v i ok ok' x r h e f g =
-    ap (λ (y : Bool). y && alternating (map topRow (drop (i + 1) v))) (f ∙ ap (λ (y : Bool). ok && y) e)
-    ∙ sym (and-assoc ok (differ (topRow (getD v i [])) (topRow (getD v (i + 1) []))) (alternating (map topRow (drop (i + 1) v))))
-    ∙ sym (ap (λ (y : Bool). ok && y) (alternating-at v i h)) ∙ g
-
-alternating-short : (l : List (List Float)) → length l < 2 → alternating (map topRow l) ≡ true
+alternating-one : (top : Bool) (l : List (List Float)) → length l ≤ 0 → alternating (top ∷ map topRow l) ≡ true
 unfolding alternating
-alternating-short [] h = refl
-alternating-short (a ∷ []) h = refl
-alternating-short (a ∷ b ∷ l) h = absurd (omega arith)
+alternating-one top [] h = refl
+alternating-one top (a ∷ l) h = absurd (omega arith)
 
 pub alternating-few : (v : List (List Float)) → length v < 2 → true ≡ alternating (map topRow v)
-alternating-few v h = sym (alternating-short v h)
+unfolding alternating
+alternating-few [] h = refl
+alternating-few (a ∷ l) h = sym (alternating-one (topRow a) l (omega arith))
 
-pub alternating-end : (v : List (List Float)) (i : ℕ) (ok r : Bool) → length v ≤ i + 1 → (ok && alternating (map topRow (drop i v))) ≡ r → ok ≡ r
-alternating-end v i ok r h g =
-    sym (and-true ok) ∙ sym (ap (λ (y : Bool). ok && y) (alternating-short (drop i v) (omega (arith, length-drop i v)))) ∙ g
+pub alternating-end : (v : List (List Float)) (i : ℕ) (top ok r : Bool) → length v ≤ i → (ok && alternating (top ∷ map topRow (drop i v))) ≡ r → ok ≡ r
+alternating-end v i top ok r h g =
+    sym (and-true ok) ∙ sym (ap (λ (y : Bool). ok && y) (alternating-one top (drop i v) (omega (arith, length-drop i v)))) ∙ g
 
 -- both ends
 pub held-none : (v : List (List Float)) → length v ≡ 0 → false ≡ endsHeld v

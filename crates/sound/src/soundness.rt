@@ -228,28 +228,29 @@ fn differs(a: bool, b: bool) -> bool
     b
 }
 
-fn marks_differ(fp: &[[f64; 18]], i: usize) -> bool
-    requires { ⌜ i + 1 < length (now fp) ⌝ }
-    ensures { λ r. ⌜ r ≡ differ (topRow (getD (now (fp .entry)) i [])) (topRow (getD (now (fp .entry)) (i + 1) [])) ⌝ }
+fn top_at(fp: &[[f64; 18]], i: usize) -> bool
+    requires { ⌜ i < length (now fp) ⌝ }
+    ensures { λ r. ⌜ r ≡ topRow (getD (now (fp .entry)) i []) ⌝ }
 {
     let p = fp[i];
-    let q = fp[i + 1];
-    differs(is_top_row(p), is_top_row(q))
+    is_top_row(p)
 }
 
-// Tops and bottoms alternate.
+// Tops and bottoms alternate. Each mark is worked out once, and kept for the turn after its own.
 fn marks_alternate(fp: &[[f64; 18]]) -> bool
     ensures { λ r. ⌜ r ≡ alternating (map topRow (now (fp .entry))) ⌝ }
 {
     let n = fp.len();
-    let mut ok = true;
-    let mut i: usize = 0;
     if n < 2 {
         return true;
     }
-    let m = n - 1;
-    while i < m {
-        ok = both(ok, marks_differ(fp, i));
+    let mut ok = true;
+    let mut top = top_at(fp, 0);
+    let mut i: usize = 1;
+    while i < n {
+        let next = top_at(fp, i);
+        ok = both(ok, differs(top, next));
+        top = next;
         i += 1;
     }
     ok
