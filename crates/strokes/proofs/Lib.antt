@@ -3,6 +3,7 @@ pub mod StoredRaw
 pub mod StoredUnfinished
 pub mod StoredCounts
 pub mod StoredFractals
+pub mod MovedFractals
 pub mod StoredStrokes
 pub mod StoredAgain
 pub mod StoredStates

@@ -9,7 +9,7 @@ use mathlib.Core.Bool.{Bool, true, false, _&&_, cond}
 use mathlib.Core.List.{List, [], _∷_, _++_, map, map-append, append-assoc}
 use mathlib.Core.Option.{Option, none, some}
 use lib.ListN.{length, take, drop, getD, set, length-take, length-drop, length-map, List·getD-map, drop-of-length-le}
-use lib.Seq.{take-take, drop-drop, drop-cons, getD-take, length-take-le, take-suc-set, take-all, take-at, drop-at, take-append-seam, take-suc, getD-drop}
+use lib.Seq.{take-take, drop-drop, getD-take, length-take-le, take-suc-set, take-all, take-at, drop-at, take-append-seam, take-suc, getD-drop}
 use lib.IntN.{ℤ, pos}
 use lib.Ieee.{Float, nan, lt}
 use lib.Dec.{T, ltb, leb, eqb, leb→le, ltb→lt, eqb→eq}
@@ -20,8 +20,8 @@ use Rattle.bars.specs.Bars.{Merged, mergedOf}
 use Rattle.bars.specs.Lists.{All, every, some-of, last, init, copied}
 use Rattle.stores.specs.Stores.{RawStore, MergedStore, rawPart, barOf, rawBars, mergedBars}
 use Rattle.stores.specs.Code.StoreRows.{SizedMerged, RoomRaw, RoomMerged, barAt, newBarAt, CopiedInUse}
-use Rattle.bars.proofs.Moves.{length-copied, take-copied, run-is, down-turn}
-use Rattle.stores.proofs.Columns.{zip-copied, zip-length, zip-at, merged-at, merged-length, merged-bars}
+use Rattle.bars.proofs.Moves.{take-copied, run-is, down-turn}
+use Rattle.stores.proofs.Columns.{zip-length, zip-at, merged-at, merged-length, merged-bars}
 use Rattle.stores.proofs.KeptBars.{map-take}
 use Rattle.stores.proofs.InUse.{copied-read, copied-sized}
 use Rattle.strokes.specs.declared.Stand.{Stand}
@@ -38,7 +38,7 @@ use Rattle.machine.specs.Feed.{shedIf}
 use Rattle.machine.specs.Soundness.{fewerFractals, alternates, sameFractal, isStroke}
 use Rattle.strokes.specs.StateRead.{mergedSized, fractalSized, rawSized, storesSized, countsSized, elementsSized, sized, stateOf, rowBar, fractalOf, noFractal, bareBar, bareFractal, bareStroke, rowFractal, storedFractals, strokeWith, strokesWith, settingsOf, barCounts, fractalCounts, total}
 use Rattle.strokes.specs.Lent.{Stores, FractalStore}
-use Rattle.strokes.specs.Code.StrokeSteps.{SizedFractals, RoomFractals, keptStrokes, Fewer, Kept, copiedFractals, shifted, shedStand, ShedWhere, plainBar, fractalsBetween, withStroke, endIf, windowsEnd, madeStroke, Makeable, Made, lastPlace, lastBars, lastFractals, endPlace, lastRead, LastStands, LastIs, TakenOff}
+use Rattle.strokes.specs.Code.StrokeSteps.{SizedFractals, RoomFractals, keptStrokes, Fewer, Kept, movedDown, movedFractals, shifted, shedStand, ShedWhere, plainBar, fractalsBetween, withStroke, endIf, windowsEnd, madeStroke, Makeable, Made, lastPlace, lastBars, lastFractals, endPlace, lastRead, LastStands, LastIs, TakenOff}
 use Rattle.strokes.specs.FractalRows.{pasted, putFractals, rowMark}
 use Rattle.machine.proofs.FewerFractals.{MadeFrom, stroke-found, start-read, end-read, stroke-fractals, order, end-stands}
 use Rattle.machine.proofs.Places.{fits}
@@ -46,6 +46,7 @@ use Rattle.machine.proofs.StrokesChain.{init-snoc}
 use Rattle.check_bi.proofs.ScanPlaces.{MadeAs}
 use Rattle.strokes.specs.Code.ElementCounts.{StaySized}
 use Rattle.strokes.specs.Code.BarSteps.{withoutLast}
+use Rattle.strokes.proofs.MovedFractals.{front, counts-next, strokes-moved, stored-moved, sized-moved}
 use Rattle.strokes.proofs.StoredCounts.{stay-fewer, stay-moved, stay-added}
 use Rattle.strokes.proofs.StoredFractals.{Shown, fxs-shown, sized-put, stored-put, fxs-bare}
 use Rattle.strokes.proofs.BareSteps.{shed-bare}
@@ -61,9 +62,6 @@ fewer-drop (n ∷ x ∷ ns) [] h = tt
 fewer-drop (n ∷ ns) (m ∷ ms) h = h .1
 
 module _ {A : Type 0} where
-  front : (m k : ℕ) (l l' : List A) → m ≤ k → take k l ≡ take k l' → take m l ≡ take m l'
-  front m k l l' h e = sym (take-take m k l h) ∙ ap (take m) e ∙ take-take m k l' h
-
   behind : (n t : ℕ) (l l' : List A) → take (n + t) l ≡ take (n + t) l' → take t (drop n l) ≡ take t (drop n l')
   behind n t l l' e = run-is l n t ∙ ap (drop n) e ∙ sym (run-is l' n t)
 
@@ -115,19 +113,10 @@ unfolding total
 total-drop [] = refl
 total-drop (n ∷ ns) = omega arith
 
--- the next of the numbers that are added up
-pub total-turn : (v : List ℕ) (i a : ℕ) → i < length v → a + total (drop i v) ≡ total v → a + getD v i 0 + total (drop (i + 1) v) ≡ total v
-unfolding total
-total-turn v i a h e =
-    let j : i + 1 ≡ suc i = omega arith in
-    let q : total (drop i v) ≡ getD v i 0 + total (drop (i + 1) v) = ap total (drop-cons v i 0 h) ∙ ap (λ (k : ℕ). getD v i 0 + total (drop k v)) (sym j) in
-    omega arith
-
--- of the first n of them
+-- the next of the first n numbers that are added up
 pub total-step : (l : List ℕ) (n i a : ℕ) → n ≤ length l → i < n → a + total (drop i (take n l)) ≡ total (take n l) → a + getD l i 0 + total (drop (i + 1) (take n l)) ≡ total (take n l)
-total-step l n i a h k e =
-    let q : i < length (take n l) = omega (arith, length-take-le n l h) in
-    ap (λ (x : ℕ). a + x + total (drop (i + 1) (take n l))) (sym (getD-take n l i 0 k)) ∙ total-turn (take n l) i a q e
+unfolding total
+total-step l n i a h k e = omega (arith, ap total (counts-next l n i h k))
 
 pub length-take-most : {A : Type 0} (n : ℕ) (l : List A) → length (take n l) ≤ n
 length-take-most n l = rw length-take (omega arith)
@@ -156,31 +145,20 @@ module _ {A : Type 0} where
       ∙ ap (λ (k : ℕ). take k (drop b l)) (sym (total-drop ns))
 
 shed-read : (ns ms : List ℕ) (ks : List Merged) (fs : List Fractal) → Fewer ns ms → total ns ≤ length ks → total ns ≤ length fs
-    → strokesWith (drop 1 ns) (drop 1 ms) (copied ks 0 ks (getD ns 0 0) (total ns - getD ns 0 0)) (copied fs 0 fs (getD ns 0 0) (total ns - getD ns 0 0))
+    → strokesWith (drop 1 ns) (drop 1 ms) (copied ks 0 ks (getD ns 0 0) (total ns - getD ns 0 0)) (movedDown (drop 1 ns) (drop 1 ms) 0 (getD ns 0 0) fs)
     ≡ drop 1 (strokesWith ns ms ks fs)
 shed-read ns ms ks fs h a b =
     let n = getD ns 0 0 in
-    let t = total ns - n in
-    strokes-same (drop 1 ns) (drop 1 ms) (copied ks 0 ks n t) (drop n ks) (copied fs 0 fs n t) (drop n fs) (fewer-drop ns ms h) (moved ns ks a) (moved ns fs b)
+    let c = copied ks 0 ks n (total ns - n) in
+    let less = fewer-drop ns ms h in
+    strokes-moved (drop 1 ns) (drop 1 ms) 0 n c fs less (omega (arith, total-drop ns, head-least ns))
+    ∙ ap (λ (x : ℕ). strokesWith (drop 1 ns) (drop 1 ms) c (drop x fs)) (zero-add n)
+    ∙ strokes-same (drop 1 ns) (drop 1 ms) c (drop n ks) (drop n fs) (drop n fs) less (moved ns ks a) refl
     ∙ strokes-drop ns ms ks fs
 
 pub stored-length : (f : FractalStore) (n : ℕ) → SizedFractals f n → length (storedFractals f) ≡ n
 unfolding storedFractals
 stored-length f n h = zip-length rowFractal (f .stamps) (f .prices) (h .stamps ∙ sym (h .prices)) ∙ h .stamps
-
-stored-copied : (d s : FractalStore) (at from n k m : ℕ) → SizedFractals d k → SizedFractals s m
-    → storedFractals (copiedFractals d at s from n) ≡ copied (storedFractals d) at (storedFractals s) from n
-unfolding storedFractals copiedFractals
-stored-copied d s at from n k m h g =
-    zip-copied rowFractal (d .stamps) (s .stamps) (d .prices) (s .prices) at from n (h .stamps ∙ sym (h .prices)) (g .stamps ∙ sym (g .prices))
-
-sized-copied : (d s : FractalStore) (at from n k m : ℕ) → SizedFractals d k → SizedFractals s m → at + n ≤ k → from + n ≤ m → SizedFractals (copiedFractals d at s from n) k
-unfolding copiedFractals
-sized-copied d s at from n k m h g a b =
-    record {
-      stamps = length-copied (d .stamps) (s .stamps) at from n (rw (h .stamps) a) (rw (g .stamps) b) ∙ h .stamps;
-      prices = length-copied (d .prices) (s .prices) at from n (rw (h .prices) a) (rw (g .prices) b) ∙ h .prices;
-    }
 
 -- counts that are moved one place down, the j-th next
 pub shift-turn : (s l : List ℕ) (j v : ℕ) → l ≡ copied s 0 s 1 j → j + 1 < length s → v ≡ getD l (j + 1) 0 → set l j v ≡ copied s 0 s 1 (j + 1)
@@ -215,7 +193,7 @@ pub shed-means : (s r : Stand) (k : MergedStore) (f : FractalStore) (k' : Merged
     → 1 ≤ s .strokes
     → b ≡ getD (s .bars) 0 0
     → CopiedInUse k 0 k b (total (barCounts s) - b) k'
-    → f' ≡ copiedFractals f 0 f b (total (barCounts s) - b)
+    → f' ≡ movedFractals (drop 1 (barCounts s)) (drop 1 (fractalCounts s)) b f
     → r ≡ shedStand s
     → barCounts r ≡ drop 1 (barCounts s)
     → fractalCounts r ≡ drop 1 (fractalCounts s)
@@ -224,6 +202,7 @@ unfolding shedIf keptStrokes shedStand
 shed-means s r k f k' f' b h one eb ek ef er ns ms =
     let room = s .rooms .strokes in
     let w = barCounts s in
+    let v = fractalCounts s in
     let eb' : b ≡ getD w 0 0 = eb ∙ sym (first-count s one) in
     let g : b ≤ total w = rw eb' (head-least w) in
     let fits = h .fits in
@@ -232,23 +211,24 @@ shed-means s r k f k' f' b h one eb ek ef er ns ms =
     let t = total w - b in
     let lt : b + t ≤ room = omega arith in
     let lz : 0 + t ≤ room = omega arith in
+    let less' = fewer-drop w v (h .fewer) in
+    let lm : b + total (drop 1 w) ≤ room = omega (arith, total-drop w) in
     let rm : r .rooms .strokes ≡ room = ap (λ (x : Stand). x .rooms .strokes) er in
     let st : r .strokes ≡ s .strokes - 1 = ap (λ (x : Stand). x .strokes) er in
     let less = h .strokes in
     record {
       strokes =
           (λ i. strokesWith (ns i) (ms i) (copied-read k k k' 0 b t room room (h .merged) (h .merged) ek i)
-          ((ap storedFractals ef ∙ stored-copied f f 0 b t room room (h .fractals) (h .fractals)) i))
-          ∙ (λ i. strokesWith (drop 1 w) (drop 1 (fractalCounts s)) (copied (mergedBars k) 0 (mergedBars k) (eb' i) (total w - eb' i))
-          (copied (storedFractals f) 0 (storedFractals f) (eb' i) (total w - eb' i)))
-          ∙ shed-read w (fractalCounts s) (mergedBars k) (storedFractals f) (h .fewer) (rw lk fits) (rw lf fits);
+          ((ap storedFractals ef ∙ stored-moved (drop 1 w) (drop 1 v) b f room (h .fractals) less' lm) i))
+          ∙ (λ i. strokesWith (drop 1 w) (drop 1 v) (copied (mergedBars k) 0 (mergedBars k) (eb' i) (total w - eb' i)) (movedDown (drop 1 w) (drop 1 v) 0 (eb' i) (storedFractals f)))
+          ∙ shed-read w v (mergedBars k) (storedFractals f) (h .fewer) (rw lk fits) (rw lf fits);
       kept =
           record {
             strokes = omega arith;
             merged = subst (SizedMerged k') (sym rm) (copied-sized k k k' 0 b t room room (h .merged) (h .merged) ek lz lt);
-            fractals = subst (SizedFractals f') (sym rm) (subst (λ (x : FractalStore). SizedFractals x room) (sym ef) (sized-copied f f 0 b t room room (h .fractals) (h .fractals) lz lt));
+            fractals = subst (SizedFractals f') (sym rm) (subst (λ (x : FractalStore). SizedFractals x room) (sym ef) (sized-moved (drop 1 w) (drop 1 v) b f room (h .fractals) less' lm));
             fits = rw (ns, rm, total-drop w) (omega arith);
-            fewer = subst (λ (x : List ℕ). Fewer (barCounts r) x) (sym ms) (subst (λ (x : List ℕ). Fewer x (drop 1 (fractalCounts s))) (sym ns) (fewer-drop w (fractalCounts s) (h .fewer)));
+            fewer = subst (λ (x : List ℕ). Fewer (barCounts r) x) (sym ms) (subst (λ (x : List ℕ). Fewer x (drop 1 v)) (sym ns) less');
           };
       rest =
           record {
@@ -268,15 +248,15 @@ pub shed-done : (s r : Stand) (k : MergedStore) (f : FractalStore) (k' : MergedS
     → 1 ≤ s .strokes
     → u ≡ total (take (s .strokes) (s .bars))
     → CopiedInUse k 0 k (getD (s .bars) 0 0) (u - getD (s .bars) 0 0) k'
-    → f' ≡ copiedFractals f 0 f (getD (s .bars) 0 0) (u - getD (s .bars) 0 0)
+    → f' ≡ movedFractals (drop 1 (take (s .strokes) (s .bars))) (drop 1 (take (s .strokes) (s .fractals))) (getD (s .bars) 0 0) f
     → r ≡ shedStand s
     → barCounts r ≡ drop 1 (barCounts s)
     → fractalCounts r ≡ drop 1 (fractalCounts s)
     → ShedWhere true s k f r k' f'
-unfolding barCounts
+unfolding barCounts fractalCounts
 shed-done s r k f k' f' u h one eu ek ef er ns ms =
     let b = getD (s .bars) 0 0 in
-    shed-means s r k f k' f' b h one refl (subst (λ (x : ℕ). CopiedInUse k 0 k b (x - b) k') eu ek) (ef ∙ ap (λ (x : ℕ). copiedFractals f 0 f b (x - b)) eu) er ns ms
+    shed-means s r k f k' f' b h one refl (subst (λ (x : ℕ). CopiedInUse k 0 k b (x - b) k') eu ek) ef er ns ms
 
 pub shed-not : (s : Stand) (k : MergedStore) (f : FractalStore) → Kept s k f → ShedWhere false s k f s k f
 unfolding shedIf
@@ -288,15 +268,26 @@ first-within l n u h e = let q = head-least (take n l) in let g = getD-take n l 
 pub room-fractals : (f : FractalStore) (n m : ℕ) → SizedFractals f n → m ≤ n → RoomFractals f m
 room-fractals f n m h g = record { stamps = omega (arith, h .stamps); prices = omega (arith, h .prices) }
 
+-- what the two moves ask
 pub shed-rooms : (s : Stand) (k : MergedStore) (f : FractalStore) (u : ℕ) → Kept s k f → 1 ≤ s .strokes → u ≡ total (take (s .strokes) (s .bars))
-    → RoomMerged k (getD (s .bars) 0 0 + (u - getD (s .bars) 0 0)) × RoomFractals f (getD (s .bars) 0 0 + (u - getD (s .bars) 0 0))
+    → RoomMerged k (getD (s .bars) 0 0 + (u - getD (s .bars) 0 0))
 unfolding barCounts
 shed-rooms s k f u h one e =
     let b = getD (s .bars) 0 0 in
     let fits = h .fits in
     let q : b ≤ u = first-within (s .bars) (s .strokes) u one e in
-    let g : b + (u - b) ≤ s .rooms .strokes = omega arith in
-    (room-of k (s .rooms .strokes) (b + (u - b)) (h .merged) g, room-fractals f (s .rooms .strokes) (b + (u - b)) (h .fractals) g)
+    room-of k (s .rooms .strokes) (b + (u - b)) (h .merged) (omega arith)
+
+pub shed-fractals : (s : Stand) (k : MergedStore) (f : FractalStore) → Kept s k f → 1 ≤ s .strokes
+    → Fewer (drop 1 (take (s .strokes) (s .bars))) (drop 1 (take (s .strokes) (s .fractals))) × RoomFractals f (getD (s .bars) 0 0 + total (drop 1 (take (s .strokes) (s .bars))))
+unfolding barCounts fractalCounts
+shed-fractals s k f h one =
+    let w = take (s .strokes) (s .bars) in
+    let fits = h .fits in
+    let q = head-least w in
+    let g = first-count s one in
+    let d = total-drop w in
+    (fewer-drop w (take (s .strokes) (s .fractals)) (h .fewer), room-fractals f (s .rooms .strokes) (getD (s .bars) 0 0 + total (drop 1 w)) (h .fractals) (omega arith))
 
 -- ---- a stroke is made
 

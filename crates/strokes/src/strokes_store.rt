@@ -4,12 +4,12 @@ ghost use Prim.Native.Nat.{_+_, _-_, _/_, _≤_, _<_};
 ghost use mathlib.Core.List.{[], _∷_, _++_};
 ghost use lib.ListN.{length, take, drop};
 ghost use Rattle.bars.specs.Lists.{copied};
-ghost use Rattle.stores.specs.Code.StoreRows.{RoomRaw, RoomMerged, CopiedInUse};
+ghost use Rattle.stores.specs.Code.StoreRows.{RoomRaw};
 ghost use Rattle.strokes.specs.StateRead.{barCounts, fractalCounts, total};
 ghost use Rattle.strokes.specs.Lent.{fractalsHeld, fractalsBefore, fractalsAfter};
 ghost use Rattle.machine.specs.Fractals.{taken};
 ghost use Rattle.check_bi.specs.Code.Scan.{candleOf};
-ghost use Rattle.strokes.specs.Code.StrokeSteps.{setFractal, RoomFractals, plainBar, fractalsBetween, lastOf, writing, putFractal, putWindow, LastStands, lastRead, Kept, Makeable, Made, ShedWhere, copiedFractals, shifted, shedStand, withStroke, windowsEnd};
+ghost use Rattle.strokes.specs.Code.StrokeSteps.{setFractal, RoomFractals, plainBar, fractalsBetween, lastOf, writing, putFractal, putWindow, LastStands, lastRead, Fewer, Kept, Makeable, Made, ShedWhere, copiedFractals, movedFractals, shifted, shedStand, withStroke, windowsEnd};
 ghost use Rattle.strokes.specs.FractalRows.{putFractals};
 ghost use mathlib.Core.Bool.{true};
 ghost use lib.Dec.{ltb};
@@ -300,24 +300,37 @@ fn down_fractal_prices(s: &mut [[f64; 18]], from: usize, at: usize, n: usize)
     }
 }
 
-// All rows from place `from` on, n of them, to the beginning; of the rows of elements what is in use.
-fn move_strokes_down(
-    st: &mut [i64],
-    si: &mut [i32],
-    sp: &mut [[f64; 6]],
-    sc: &mut [usize],
-    se: &mut [[i64; 101]],
+// The rows of n fractals, in both columns.
+fn down_fractals(fs: &mut [[i64; 6]], fp: &mut [[f64; 18]], from: usize, at: usize, n: usize)
+    requires { ⌜ at ≤ from ⌝ ∗ ⌜ RoomFractals (fractalsHeld fs fp) (from + n) ⌝ }
+    ensures { λ _. ⌜ (fractalsAfter fs fp) ≡ copiedFractals (fractalsBefore fs fp) at (fractalsBefore fs fp) from n ⌝ }
+{
+    down_stamps(fs, from, at, n);
+    down_fractal_prices(fp, from, at, n);
+}
+
+// The fractals of all strokes but the oldest, which has `first` bars, down to the beginning. A stroke has fewer fractals than bars, so that many rows are free: only
+// those in use are moved, stroke by stroke.
+fn move_fractals_down(
     fs: &mut [[i64; 6]],
     fp: &mut [[f64; 18]],
-    from: usize,
+    bars: [u32; 65],
+    fractals: [u32; 65],
     n: usize,
+    first: usize,
 )
-    requires { ⌜ RoomMerged (mergedHeld st si sp sc se) (from + n) ⌝ ∗ ⌜ RoomFractals (fractalsHeld fs fp) (from + n) ⌝ }
-    ensures { λ _. ⌜ CopiedInUse (mergedBefore st si sp sc se) 0 (mergedBefore st si sp sc se) from n (mergedAfter st si sp sc se) × ((fractalsAfter fs fp) ≡ copiedFractals (fractalsBefore fs fp) 0 (fractalsBefore fs fp) from n) ⌝ }
+    requires { ⌜ n ≤ 65 ⌝ ∗ ⌜ Fewer (drop 1 (take n bars)) (drop 1 (take n fractals)) ⌝ ∗ ⌜ RoomFractals (fractalsHeld fs fp) (first + total (drop 1 (take n bars))) ⌝ }
+    ensures { λ _. ⌜ (fractalsAfter fs fp) ≡ movedFractals (drop 1 (take n bars)) (drop 1 (take n fractals)) first (fractalsBefore fs fp) ⌝ }
 {
-    stores::move_new_bars_down(st, si, sp, sc, se, from, 0, n);
-    down_stamps(fs, from, 0, n);
-    down_fractal_prices(fp, from, 0, n);
+    let mut to: usize = 0;
+    let mut k: usize = 1;
+    while k < n {
+        let m = wide(fractals[k]);
+        down_fractals(fs, fp, to + first, to, m);
+        let count = wide(bars[k]);
+        to += count;
+        k += 1;
+    }
 }
 
 // ---- the stand with a stroke more or less
@@ -392,10 +405,12 @@ impl Stand {
         ensures { λ r. ⌜ ShedWhere true self (mergedBefore st si sp sc se) (fractalsBefore fs fp) r (mergedAfter st si sp sc se) (fractalsAfter fs fp) ⌝ }
     {
         let bars = self.bars;
+        let fractals = self.fractals;
         let n = self.strokes;
         let used = total_bars(bars, n);
         let first = bars[0] as usize;
-        move_strokes_down(st, si, sp, sc, se, fs, fp, first, used - first);
+        stores::move_new_bars_down(st, si, sp, sc, se, first, 0, used - first);
+        move_fractals_down(fs, fp, bars, fractals, n, first);
         shed_counts(self)
     }
 

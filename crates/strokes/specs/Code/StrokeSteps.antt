@@ -132,6 +132,19 @@ unfoldable pub copiedFractals : FractalStore → ℕ → FractalStore → ℕ �
 unfolding copied
 copiedFractals d at s from n = fractalStore (copied (d .stamps) at (s .stamps) from n) (copied (d .prices) at (s .prices) from n)
 
+-- The rows of each stroke's fractals moved down by b places, stroke by stroke: the first of these strokes goes to place `to`, and each next one as many places
+-- further on as the one before it has bars. The free rows behind a stroke's fractals are not moved.
+unfoldable pub movedDown : {A : Type 0} → List ℕ → List ℕ → ℕ → ℕ → List A → List A
+unfolding copied
+movedDown [] ms to b l = l
+movedDown (n ∷ ns) [] to b l = l
+movedDown (n ∷ ns) (m ∷ ms) to b l = movedDown ns ms (to + n) b (copied l to l (to + b) m)
+
+-- both columns, to the beginning
+unfoldable pub movedFractals : List ℕ → List ℕ → ℕ → FractalStore → FractalStore
+unfolding movedDown
+movedFractals ns ms b f = fractalStore (movedDown ns ms 0 b (f .stamps)) (movedDown ns ms 0 b (f .prices))
+
 -- 65 counts one place down
 unfoldable pub shifted : List ℕ → List ℕ
 unfolding copied

@@ -1,13 +1,22 @@
-use Rattle.strokes.proofs.StoredStrokes.{first-within, shed-rooms, shed-done}
+use Rattle.strokes.proofs.StoredStrokes.{first-within, shed-rooms, shed-fractals, shed-done}
 use Rattle.strokes.specs.StateRead.{barCounts}
 use native.Mathlib.Omega.{arith}
 use borrow.Author.Needs.{needs}
 use Rattle.strokes.proofs.Stand.shed.Statement.{statement}
 use Rattle.strokes.proofs.Stand.shed.Tie as tie
 
+abbrev start : tie.After-total-bars → tie.Start
+start c = c .before .before .before .before
+
+abbrev summed : tie.After-move-new-bars-down-arg5 → tie.After-total-bars
+summed c = c .before .before .before .before .before
+
+abbrev moved : tie.After-move-fractals-down-arg2 → tie.After-move-new-bars-down
+moved c = c .before .before .before .before .before .before .before .before
+
 total-bars-requires : tie.Need-total-bars-requires
 unfolding barCounts
-total-bars-requires c κs = let k = c .before .before .pre .1 in let t = k .merged .raw .times in let u = k .fits in (k .strokes, omega arith)
+total-bars-requires c κs = let k = c .before .before .before .pre .1 in let t = k .merged .raw .times in let u = k .fits in (k .strokes, omega arith)
 
 array-read-first : tie.Need-array-read-first
 array-read-first c = search needs
@@ -15,14 +24,17 @@ array-read-first c = search needs
 cast-first : tie.Need-cast-first
 cast-first c = search needs
 
-sub-move-strokes-down : tie.Need-sub-move-strokes-down
-sub-move-strokes-down c = let s = c .before .before .before .before .before .before .before .before .before .before .args .self in first-within (s .bars) (s .strokes) _ (c .before .before .before .before .before .before .before .before .before .before .pre .0) (c .before .before .before .before .before .before .before .total-bars .ensures)
+sub-move-new-bars-down : tie.Need-sub-move-new-bars-down
+sub-move-new-bars-down c = let a = start (summed c) in first-within (a .args .self .bars) (a .args .self .strokes) _ (a .pre .0) (summed c .total-bars .ensures)
 
-move-strokes-down-requires : tie.Need-move-strokes-down-requires
-move-strokes-down-requires c κs = shed-rooms (c .before .before .before .before .before .before .before .before .before .before .args .self) _ _ _ (c .before .before .before .before .before .before .before .before .before .before .pre .1) (c .before .before .before .before .before .before .before .before .before .before .pre .0) (c .before .before .before .before .before .before .before .total-bars .ensures)
+move-new-bars-down-requires : tie.Need-move-new-bars-down-requires
+move-new-bars-down-requires c κs = let a = start (summed c) in (omega arith, shed-rooms (a .args .self) _ _ _ (a .pre .1) (a .pre .0) (summed c .total-bars .ensures))
+
+move-fractals-down-requires : tie.Need-move-fractals-down-requires
+move-fractals-down-requires c κs = let a = start (summed (moved c .before)) in (a .pre .1 .strokes, shed-fractals (a .args .self) _ _ (a .pre .1) (a .pre .0))
 
 shed-counts-requires : tie.Need-shed-counts-requires
-shed-counts-requires c κs = (c .before .before .before .before .before .before .before .before .before .before .before .before .before .before .before .before .before .before .before .pre .0, c .before .before .before .before .before .before .before .before .before .before .before .before .before .before .before .before .before .before .before .pre .1 .strokes)
+shed-counts-requires c κs = let a = start (summed (moved (c .before .before .before) .before)) in (a .pre .0, a .pre .1 .strokes)
 
 same-length : tie.Need-same-length
 same-length c = search needs
@@ -47,9 +59,12 @@ same-length-7 c = search needs
 
 returns : tie.Need-returns
 returns c =
-    let m = c .before .before .before .before .before .before .before .before .before .move-strokes-down .ensures in
+    let f = c .before .before .before in
+    let m = moved (f .before) in
+    let t = summed (m .before) in
+    let a = start t in
     let s = c .shed-counts .ensures in
-    shed-done (c .before .before .before .before .before .before .before .before .before .before .before .before .before .before .before .before .before .before .before .before .args .self) _ _ _ _ _ (c .before .before .before .before .before .before .before .before .before .before .before .before .before .before .before .before .before .total-bars .result) (c .before .before .before .before .before .before .before .before .before .before .before .before .before .before .before .before .before .before .before .before .pre .1) (c .before .before .before .before .before .before .before .before .before .before .before .before .before .before .before .before .before .before .before .before .pre .0) (c .before .before .before .before .before .before .before .before .before .before .before .before .before .before .before .before .before .total-bars .ensures) (m .0) (m .1) (s .0) (s .1) (s .2)
+    shed-done (a .args .self) _ _ _ _ _ (t .total-bars .result) (a .pre .1) (a .pre .0) (t .total-bars .ensures) (m .move-new-bars-down .ensures) (f .move-fractals-down .ensures) (s .0) (s .1) (s .2)
 
 pub shed-spec : {M : Type 1} → statement M
 shed-spec =
@@ -58,8 +73,9 @@ shed-spec =
     total-bars-requires
     array-read-first
     cast-first
-    sub-move-strokes-down
-    move-strokes-down-requires
+    sub-move-new-bars-down
+    move-new-bars-down-requires
+    move-fractals-down-requires
     shed-counts-requires
     same-length
     same-length-2
