@@ -44,10 +44,9 @@ use Rattle.machine.proofs.FewerFractals.{MadeFrom, stroke-found, start-read, en
 use Rattle.machine.proofs.Places.{fits}
 use Rattle.machine.proofs.StrokesChain.{init-snoc}
 use Rattle.check_bi.proofs.ScanPlaces.{MadeAs}
-use Rattle.strokes.specs.Code.ElementCounts.{StaySized}
 use Rattle.strokes.specs.Code.BarSteps.{withoutLast}
 use Rattle.strokes.proofs.MovedFractals.{front, counts-next, strokes-moved, stored-moved, sized-moved}
-use Rattle.strokes.proofs.StoredCounts.{stay-fewer, stay-moved, stay-added}
+use Rattle.strokes.proofs.StoredCounts.{stay-moved, stay-added}
 use Rattle.strokes.proofs.StoredFractals.{Shown, fxs-shown, sized-put, stored-put, fxs-bare}
 use Rattle.strokes.proofs.BareSteps.{shed-bare}
 use Rattle.strokes.proofs.StoredUnfinished.{room-of}
@@ -982,18 +981,3 @@ last-stands s k f h one lb lf all =
       ends = omega arith;
       fewer = fewer-last ns ms x y e (subst (λ (z : List ℕ). Fewer (ns ++ x ∷ []) z) q (subst (λ (z : List ℕ). Fewer z (take (s .strokes) (s .fractals))) p (h .fewer)));
     }
-
--- ---- the elements of a stroke that is taken off
-
-module _ (s : Stand) (k : MergedStore) (one : 1 ≤ s .strokes) (fits : s .strokes ≤ length (s .bars)) where
-  last-total : total (barCounts s) ≡ lastPlace s + lastBars s
-  unfolding barCounts lastPlace lastBars
-  last-total = ap total (take-before (s .bars) (s .strokes) one fits) ∙ total-more (take (s .strokes - 1) (s .bars)) (getD (s .bars) (s .strokes - 1) 0)
-
-  -- the strokes that are left, and those that were kept up to the last one's end
-  pub stay-without-last : StaySized (total (barCounts s)) k (total (barCounts (withoutLast s))) k
-  unfolding barCounts lastPlace withoutLast
-  stay-without-last = let e = last-total in stay-fewer k (total (take (s .strokes - 1) (s .bars))) (total (barCounts s)) (omega arith)
-
-  pub stay-last-stroke : StaySized (total (barCounts s)) k (lastPlace s + lastBars s) k
-  stay-last-stroke few = subst (λ (i : ℕ). T (elementsSized i k)) last-total few

@@ -80,7 +80,7 @@ last-rows s k f b lb lf e =
     let g : last (keptStrokes s k f) ≡ some a =
     ap last ((λ i. strokesWith (take-before (s .bars) (s .strokes) one lb i) (take-before (s .fractals) (s .strokes) one lf i) K F) ∙ strokes-more ns ms x y K F q)
     ∙ last-append (strokesWith ns ms K F) a in
-    record { some-one = one; sum = last-sum s one lb; bars = some-inj a b (sym g ∙ e) }
+    record { some-one = one; sum = last-sum s one; bars = some-inj a b (sym g ∙ e) }
 
 -- ---- the strokes of a stand are bare, and as many as it counts
 
@@ -293,7 +293,7 @@ module _ (s : Stand) (u k : MergedStore) (f : FractalStore) (p : Plan) (h : CanM
 
     off-fewer : 1 ≤ v .strokes → total (barCounts (withoutLast v)) ≤ total (barCounts v)
     unfolding withoutLast barCounts lastPlace
-    off-fewer one = let few = g .kept .strokes in omega (arith, last-sum v one (omega arith))
+    off-fewer one = omega (arith, last-sum v one)
 
     left-broken : (r : Stand) (u' : MergedStore) → p .broken ≡ true
         → HasUnfinished (withoutLast v) r u' (joined (storedStroke k' (lastPlace v) (lastBars v)) (drop (restOf p) (keptUnfinished v u)))

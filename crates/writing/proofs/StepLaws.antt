@@ -21,7 +21,7 @@ use Rattle.strokes.specs.Lent.{FractalStore}
 use Rattle.strokes.specs.Code.BarSteps.{HasRaw, HasUnfinished, CanJoin, keptRaw, keptUnfinished, withRaw, withUnfinished, withoutLast, storedStroke}
 use Rattle.strokes.specs.Code.StrokeSteps.{Kept, Made, lastPlace, lastBars}
 use Rattle.strokes.proofs.StoredStates.{kept-unfinished}
-use Rattle.strokes.proofs.StoredStrokes.{take-before, total-more}
+use Rattle.strokes.proofs.StoredStrokes.{last-sums}
 use Rattle.writing.specs.Code.WriteSteps.{MadeWhere, CanBreak, addIf, leftStand, leftBars, dropEarlier}
 
 -- ---- the unfinished bars begin at a place
@@ -39,16 +39,16 @@ begun-none s u k h g e =
 
 -- ---- the last stroke is joined
 
-pub last-sum : (s : Stand) → 1 ≤ s .strokes → s .strokes ≤ length (s .bars) → total (barCounts s) ≡ lastPlace s + lastBars s
+pub last-sum : (s : Stand) → 1 ≤ s .strokes → total (barCounts s) ≡ lastPlace s + lastBars s
 unfolding barCounts lastPlace lastBars
-last-sum s one lb = ap total (take-before (s .bars) (s .strokes) one lb) ∙ total-more (take (s .strokes - 1) (s .bars)) (getD (s .bars) (s .strokes - 1) 0)
+last-sum s one = last-sums (s .bars) (s .strokes) one
 
 -- its bars are among those that the strokes have
-pub last-elements : (s : Stand) (k : MergedStore) (at : ℕ) → 1 ≤ s .strokes → s .strokes ≤ length (s .bars) → at ≡ total (take (s .strokes - 1) (s .bars))
+pub last-elements : (s : Stand) (k : MergedStore) (at : ℕ) → 1 ≤ s .strokes → at ≡ total (take (s .strokes - 1) (s .bars))
     → T (elementsSized (total (barCounts s)) k) → T (elementsSized (at + getD (s .bars) (s .strokes - 1) 0) k)
 unfolding lastPlace lastBars
-last-elements s k at one lb e t =
-    subst (λ (n : ℕ). T (elementsSized n k)) (last-sum s one lb ∙ ap (λ (n : ℕ). n + getD (s .bars) (s .strokes - 1) 0) (sym e)) t
+last-elements s k at one e t =
+    subst (λ (n : ℕ). T (elementsSized n k)) (last-sum s one ∙ ap (λ (n : ℕ). n + getD (s .bars) (s .strokes - 1) 0) (sym e)) t
 
 module _ (s : Stand) (u k : MergedStore) where
   pub can-join : (at : ℕ) → SizedMerged u (s .rooms .unfinished) → SizedMerged k (s .rooms .strokes) → s .unfinished ≤ s .rooms .unfinished

@@ -1,8 +1,5 @@
 use Prim.Native.Nat.{ℕ, _+_}
-use borrow.Author.Needs.{length-unmapped}
 use Rattle.writing.proofs.StepLaws.{can-join, joined-last, last-elements}
-use lib.ListN.{length}
-use mathlib.Core.Path.{_≡_}
 use Rattle.strokes.specs.Code.StrokeSteps.{lastPlace, lastBars}
 use Rattle.strokes.specs.Code.BarSteps.{withoutLast, keptUnfinished}
 use Rattle.strokes.specs.StateRead.{elementsSized}
@@ -53,14 +50,11 @@ returns c =
     let j = c .before .before .before .before .before .before .join-broken .ensures in
     let p = c .before .before .before .before .before .before .before .before .before .before .before .before .before .before .before .before .before .before .pre .1 .1 .1 in
     let one = p .kept in
-    let most = p .most in
-    let g = c .before .before .before .before .before .before .before .before .before .before .before .before .before .before .before .before .before .before .good .0 in
-    let lb : length (a .stand .bars) ≡ 65 = length-unmapped ℕ (a .stand .bars) 65 (g .1 .1 .1 .1 .1 .1 .1 .1 .0 .1 .0 .1) in
     let at = c .before .before .before .before .before .before .before .before .before .before .before .before .before .total-bars in
     let rows = c .before .before .before .before .before .before .before .before .before .before .before .before .bars-at .ensures in
     let l = keptUnfinished (a .stand) (mergedStore (a .ut .now) (a .ui .now) (a .up .now) (a .uc .now) (a .ue .now)) in (
       joined-last (a .stand) (mergedStore (a .ut .now) (a .ui .now) (a .up .now) (a .uc .now) (a .ue .now)) (mergedStore (a .st .now) (a .si .now) (a .sp .now) (a .sc .now) (a .se .now)) (at .result) (c .before .before .before .before .before .before .before .before .before .before .before .before .bars-at .result) _ _ l (at .ensures) rows (j .0),
-      λ t. j .1 (subst (λ (x : ℕ). T (elementsSized (at .result + x) (mergedStore (a .st .now) (a .si .now) (a .sp .now) (a .sc .now) (a .se .now)))) (sym rows) (last-elements (a .stand) (mergedStore (a .st .now) (a .si .now) (a .sp .now) (a .sc .now) (a .se .now)) (at .result) one (omega arith) (at .ensures) t)),
+      λ t. j .1 (subst (λ (x : ℕ). T (elementsSized (at .result + x) (mergedStore (a .st .now) (a .si .now) (a .sp .now) (a .sc .now) (a .se .now)))) (sym rows) (last-elements (a .stand) (mergedStore (a .st .now) (a .si .now) (a .sp .now) (a .sc .now) (a .se .now)) (at .result) one (at .ensures) t)),
     )
 
 pub join-last-spec : {M : Type 1} → statement M
