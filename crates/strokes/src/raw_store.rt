@@ -1,4 +1,4 @@
-// The writing steps of a feed on the raw store.
+// The writing steps of a feed on the raw store. Each hands back how many raw bars there are then: of the stand no more changes, and a stand that is handed back is copied whole.
 ghost use mathlib.Core.Path.{_≡_};
 ghost use mathlib.Core.Bool.{true, false};
 ghost use Prim.Native.Nat.{_<_, _≤_};

@@ -300,7 +300,7 @@ fn down_fractal_prices(s: &mut [[f64; 18]], from: usize, at: usize, n: usize)
     }
 }
 
-// The rows of n fractals, in both columns.
+// The rows of n fractals from place `from` down to place `at`, in both columns.
 fn down_fractals(fs: &mut [[i64; 6]], fp: &mut [[f64; 18]], from: usize, at: usize, n: usize)
     requires { ⌜ at ≤ from ⌝ ∗ ⌜ RoomFractals (fractalsHeld fs fp) (from + n) ⌝ }
     ensures { λ _. ⌜ (fractalsAfter fs fp) ≡ copiedFractals (fractalsBefore fs fp) at (fractalsBefore fs fp) from n ⌝ }
@@ -349,7 +349,7 @@ fn windows_end(first: usize, bars: usize, n: usize) -> usize
 
 // ---- the last stroke
 
-// The last stroke, where the strokes' bars take up `used` places: a feed adds them up once.
+// The last stroke, where the strokes' bars take up `used` places, for a caller that has added them up.
 pub fn last_stroke_within(stand: Stand, st: &[i64], fp: &[[f64; 18]], used: usize) -> LastStroke
     requires { ⌜ LastStands stand (length (now st)) ⌝ ∗ ⌜ length (now fp) ≡ length (now st) ⌝ ∗ ⌜ used ≡ total (barCounts stand) ⌝ }
     ensures { λ r. ⌜ r ≡ lastRead stand (now (st .entry)) (now (fp .entry)) ⌝ }
@@ -379,6 +379,7 @@ pub fn last_stroke_within(stand: Stand, st: &[i64], fp: &[[f64; 18]], used: usiz
     }
 }
 
+// The last stroke.
 pub fn last_stroke(stand: Stand, st: &[i64], fp: &[[f64; 18]]) -> LastStroke
     requires { ⌜ LastStands stand (length (now st)) ⌝ ∗ ⌜ length (now fp) ≡ length (now st) ⌝ }
     ensures { λ r. ⌜ r ≡ lastRead stand (now (st .entry)) (now (fp .entry)) ⌝ }

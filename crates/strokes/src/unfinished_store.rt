@@ -1,4 +1,4 @@
-// The writing steps of a feed on the unfinished store. Each also says that no bar comes to have more than 101 elements.
+// The writing steps of a feed on the unfinished store. Those of the stand hand back how many unfinished bars there are then, and not the stand, which would be copied whole. Each also says that no bar comes to have more than 101 elements.
 ghost use mathlib.Core.Path.{_≡_};
 ghost use mathlib.Core.List.{[], _∷_};
 ghost use Prim.Native.Nat.{_+_, _≤_};

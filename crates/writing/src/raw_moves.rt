@@ -11,7 +11,8 @@ ghost use Rattle.stores.specs.Lent.{rawHeld, rawBefore, rawAfter};
 use bars::Bar;
 use strokes::Stand;
 
-// The raw bar is put on or replaces the last one, and with a stroke kept, raw bars earlier than the stroke store's first time are dropped.
+// The raw bar is put on or replaces the last one, and with a stroke kept, raw bars earlier than the stroke store's first time are dropped. Hands back how
+// many there are then.
 pub fn keep_raw(
     stand: Stand,
     rt: &mut [i64],

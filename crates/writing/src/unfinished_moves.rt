@@ -1,5 +1,5 @@
 // What a feed writes to the unfinished store: the bar that is merged, and the bars that are left once strokes were made or broken. Each
-// step also says that no bar comes to have more than 101 elements.
+// step hands back how many unfinished bars there are then, and also says that no bar comes to have more than 101 elements.
 ghost use mathlib.Core.Path.{_≡_};
 ghost use Prim.Native.Nat.{_≤_, _<_};
 ghost use lib.ListN.{drop, getD};
