@@ -5,6 +5,7 @@ pub mod FromZero
 pub mod AbsoluteValue
 pub mod FloatValues
 pub mod Dyadic
+pub mod ExactDivisor
 pub mod SumLaws
 pub mod RoundingLaws
 pub mod RoundSteps

@@ -229,12 +229,12 @@ few l k h =
 
 -- ---- the accumulators after each value of a list in turn
 
-mean-fold : (s : MeanSums) (l : List Float) → foldl meanMore s l ≡ record { n = countFrom (s .n) l; sum = foldl plus (s .sum) l }
+pub mean-fold : (s : MeanSums) (l : List Float) → foldl meanMore s l ≡ record { n = countFrom (s .n) l; sum = foldl plus (s .sum) l }
 unfolding meanMore countFrom
 mean-fold s [] = refl
 mean-fold s (y ∷ l) = mean-fold (meanMore s y) l
 
-slope-fold : (s : SlopeSums) (l : List Float)
+pub slope-fold : (s : SlopeSums) (l : List Float)
     → foldl slopeMore s l ≡ record { n = countFrom (s .n) l; xmean = s .xmean; ymean = s .ymean; numerator = foldl plus (s .numerator) (termsFrom (cross (s .xmean) (s .ymean)) (s .n) l); denominator = foldl plus (s .denominator) (termsFrom (square (s .xmean)) (s .n) l) }
 unfolding slopeMore countFrom termsFrom
 slope-fold s [] = refl
@@ -276,7 +276,7 @@ module _ (l : List Float) (t : T (fits binary64 (getD l 0 nan))) where
   mean-is = ap meanEnd (mean-fold meanStart l) ∙ ap (λ (z : Float). over z (countOf l)) (from-first l t)
 
 -- the first term of a sum of products is a product
-from-products : (f : Float → Float → Float) → ((x y : Float) → T (fits binary64 (f x y))) → (l : List Float) → foldl plus minusZero (terms f l) ≡ sumOf (terms f l)
+pub from-products : (f : Float → Float → Float) → ((x y : Float) → T (fits binary64 (f x y))) → (l : List Float) → foldl plus minusZero (terms f l) ≡ sumOf (terms f l)
 unfolding termsFrom
 from-products f k [] = from-first [] (nan-fits binary64)
 from-products f k (y ∷ l) = from-first (terms f (y ∷ l)) (k zeroF y)

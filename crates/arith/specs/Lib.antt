@@ -2,5 +2,6 @@ pub mod Order
 pub mod Rounding
 pub mod Cases
 pub mod Sums
+pub mod SlopeDivisor
 pub mod SumCases
 pub mod Code

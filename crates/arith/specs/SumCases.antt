@@ -2,11 +2,13 @@
 use Prim.Native.Nat.{ℕ}
 use mathlib.Core.Path.{_≡_, refl}
 use mathlib.Core.Bool.{false}
-use mathlib.Core.List.{[], _∷_}
-use lib.IntN.{pos}
-use lib.Ieee.{Float, fin, binary64, round, sum, add, neg, sub, mul, div, lt, eq}
+use mathlib.Core.List.{[], _∷_, map}
+use lib.IntN.{pos, negsuc}
+use lib.Ieee.{Float, nan, fin, binary64, round, sum, add, neg, sub, mul, div, lt, eq}
 use Rattle.arith.specs.Order.{absOf}
 use Rattle.arith.specs.Sums.{zeroF, minusZero, oneF, twoF, threeF, sumOf, sumFromZero, countFrom, termsFrom, quotientIf, meanOf, middle, cross, square, slopeOf, tiny, x4Of, x3Of, x2Of, x2yOf, xyOf, fitSums, detWith, detOf, detAOf, fitIf, fitOf, accelerationOf, changeOf, lastFrom, snrOf}
+use Rattle.arith.specs.Code.Accumulators.{meanMore, meanEnd, slopeStart, slopeMore}
+use Rattle.arith.specs.SlopeDivisor.{fourSum, divisorAfter}
 
 -- a sum of one -0.0 stays -0.0 from the first term, and is 0.0 from 0.0
 one-minus-zero : sumOf (minusZero ∷ []) ≡ minusZero
@@ -61,3 +63,16 @@ one-bar = refl
 no-change : snrOf ((oneF, oneF) ∷ (oneF, oneF) ∷ []) ≡ zeroF
 unfolding snrOf changeOf quotientIf lastFrom sumFromZero absOf eq add sum sub neg div round
 no-change = refl
+
+-- the slope's divisor, of closes that are no numbers: 0.5 of two; of four 2.25, 2.5, 2.75 and 5 after each, and four times the sums are the whole numbers
+two-divided : divisorAfter (nan ∷ nan ∷ []) 2 ≡ fin false 1 (negsuc 0)
+unfolding slopeStart slopeMore meanMore meanEnd middle cross square add sum sub neg mul div round
+two-divided = refl
+
+four-divided : map (divisorAfter (nan ∷ nan ∷ nan ∷ nan ∷ [])) (1 ∷ 2 ∷ 3 ∷ 4 ∷ []) ≡ fin false 9 (negsuc 1) ∷ fin false 5 (negsuc 0) ∷ fin false 11 (negsuc 1) ∷ odd 5 ∷ []
+unfolding slopeStart slopeMore meanMore meanEnd middle cross square add sum sub neg mul div round
+four-divided = refl
+
+four-summed : map (fourSum 4) (1 ∷ 2 ∷ 3 ∷ 4 ∷ []) ≡ 9 ∷ 10 ∷ 11 ∷ 20 ∷ []
+unfolding fourSum
+four-summed = refl

@@ -9,6 +9,7 @@ ghost use mathlib.Core.Path.{_≡_};
 ghost use Prim.Native.Nat.{min};
 ghost use mathlib.Core.List.{foldl};
 ghost use Rattle.arith.specs.Sums.{detWith, fitOf, changeOf, quotient, sumOf, meanOf, slopeOf, accelerationOf, snrOf, pairs};
+ghost use Rattle.arith.specs.SlopeDivisor.{ExactDivisor};
 ghost use Rattle.arith.specs.Code.Accumulators.{meanStart, meanMore, meanEnd, slopeStart, slopeMore, slopeEnd, fitStart, fitMore, fitEnd, snrStart, snrMore, snrEnd};
 use crate::order::abs;
 
@@ -307,9 +308,10 @@ pub fn mean(ys: &[f64]) -> f64
     MeanSums::new().each(ys).mean()
 }
 
-// The slope of the straight line through the values at 0, 1, 2 and so on; 0.0 below two values.
+// The slope of the straight line through the values at 0, 1, 2 and so on; 0.0 below two values. From
+// 2 to 65,536 values what it divides by has no error (ExactDivisor).
 pub fn slope(ys: &[f64]) -> f64
-    ensures { λ r. ⌜ r ≡ slopeOf (now (ys .entry)) ⌝ }
+    ensures { λ r. ⌜ (r ≡ slopeOf (now (ys .entry))) × ExactDivisor ⌝ }
 {
     let s = MeanSums::new().each(ys);
     SlopeSums::new(s).each(ys).slope()

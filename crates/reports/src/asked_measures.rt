@@ -4,6 +4,7 @@ ghost use mathlib.Core.List.{List};
 ghost use Prim.Native.Nat.{_≤_};
 ghost use lib.ListN.{length, take};
 ghost use lib.Dec.{T};
+ghost use Rattle.arith.specs.SlopeDivisor.{ExactDivisor};
 ghost use Rattle.bars.specs.declared.Bar.{Bar as BarOf};
 ghost use Rattle.stores.specs.Code.StoreRows.{rising};
 ghost use Rattle.strokes.specs.Lent.{before};
@@ -98,7 +99,8 @@ fn measures_in(
     part_measures(rt, rp, n, sp, sc, se, a, z, bars, start, end)
 }
 
-// The measures of the stroke at a place, the oldest at 0. Questions 4 and 13.
+// The measures of the stroke at a place, the oldest at 0. Questions 4 and 13. The slope's divisor has no
+// error from 2 to 65,536 inner raw bars (ExactDivisor); beyond that it is what the float steps give.
 pub fn measures_at(
     stand: Stand,
     rt: &[i64],
@@ -118,7 +120,7 @@ pub fn measures_at(
     fp: &[[f64; 18]],
     place: usize,
 ) -> MeasuresAnswer
-    ensures { λ r. ⌜ r ≡ measuresAt stand (before rt ri rp ut ui up uc ue st si sp sc se fs fp) place ⌝ }
+    ensures { λ r. ⌜ (r ≡ measuresAt stand (before rt ri rp ut ui up uc ue st si sp sc se fs fp) place) × ExactDivisor ⌝ }
 {
     if !question4::is_sound(
         stand,

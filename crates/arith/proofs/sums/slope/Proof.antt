@@ -1,4 +1,5 @@
 use Rattle.arith.proofs.SumLaws.{slope-is}
+use Rattle.arith.proofs.ExactDivisor.{exact-divisor}
 use Rattle.arith.specs.declared.sums.SlopeSums.{SlopeSums}
 use Rattle.arith.specs.declared.sums.MeanSums.{MeanSums}
 use Rattle.arith.specs.Code.Accumulators.{meanMore, slopeStart, slopeMore, slopeEnd}
@@ -24,7 +25,7 @@ slope-requires : tie.Need-slope-requires
 slope-requires c κs = search needs
 
 returns : tie.Need-returns
-returns c = let l = c .before .before .before .before .before .before .args .ys .now in c .slope .ensures ∙ ap slopeEnd (c .before .each2 .ensures ∙ ap (λ (s : SlopeSums). foldl slopeMore s l) (c .before .before .new2 .ensures ∙ ap slopeStart (c .before .before .before .each .ensures ∙ ap (λ (s : MeanSums). foldl meanMore s l) (c .before .before .before .before .new .ensures)))) ∙ slope-is l (c .before .before .before .before .before .shared-slice-known .given 0)
+returns c = let l = c .before .before .before .before .before .before .args .ys .now in (c .slope .ensures ∙ ap slopeEnd (c .before .each2 .ensures ∙ ap (λ (s : SlopeSums). foldl slopeMore s l) (c .before .before .new2 .ensures ∙ ap slopeStart (c .before .before .before .each .ensures ∙ ap (λ (s : MeanSums). foldl meanMore s l) (c .before .before .before .before .new .ensures)))) ∙ slope-is l (c .before .before .before .before .before .shared-slice-known .given 0), exact-divisor)
 
 pub slope-spec : {M : Type 1} → statement M
 slope-spec =
