@@ -11,7 +11,7 @@ use lib.Dec.{T, ltb, ltb→lt, nltb→le, eqb, eqb→eq, lit≤}
 use lib.IntN.{ℤ, pos, negsuc, natAbs, subℕ, _-ℤ_}
 use lib.ListN.{length, take}
 use lib.Seq.{length-take-le}
-use lib.Ieee.{Float, nan, inf, fin, binary64, round, sub, mul, eq, level, ofInt, up, down}
+use lib.Ieee.{Float, nan, inf, fin, binary64, round, sub, mul, eq, level, up, down}
 use lib.Ieee.Exact.{HasValue}
 use lib.Ieee.Fits.{mul-fits, down-pos, and-l}
 use Rattle.arith.proofs.Tests.{same}
@@ -21,7 +21,7 @@ use Rattle.arith.specs.declared.sums.MeanSums.{MeanSums}
 use Rattle.arith.specs.declared.sums.SlopeSums.{SlopeSums}
 use Rattle.arith.specs.Sums.{zeroF, minusZero, oneF, twoF, plus, less, over, sumOf, countOf, termsFrom, terms, quotientIf, quotient, meanOf, middle, cross, square, slopeOf}
 use Rattle.arith.specs.Code.Accumulators.{meanStart, slopeStart}
-use Rattle.arith.specs.SlopeDivisor.{IsNumber, twiceOff, fourSquare, fourSum, counted, slopeAfter, divisorAfter, InBounds, ExactDivisor}
+use Rattle.arith.specs.SlopeDivisor.{IsExactly, twiceDifference, fourSquare, fourSum, meanSums, slopeAfter, divisorAfter, InBounds, ExactDivisor}
 
 -- ---- whole numbers
 
@@ -80,23 +80,21 @@ closed m (suc k) = next (fourSum (suc m) k) (fourSquare (suc m) k) m k (closed m
     next s q m k h g = omega arith
 
 -- all n squares
-closed-all : (n : ℕ) → 1 ≤ n → 3 * fourSum n n ≡ n * (n * n - 1)
-closed-all zero h = absurd (none h)
-  where
-    none : 1 ≤ 0 → ⊥
-    none h = omega arith
-closed-all (suc m) h = last (fourSum (suc m) (suc m)) (suc m) (closed m (suc m)) ∙ sym (mul-sub (suc m) (suc m * suc m) 1)
+closed-all : (n : ℕ) → 3 * fourSum n n ≡ n * (n * n - 1)
+unfolding fourSum
+closed-all zero = refl
+closed-all (suc m) = last (fourSum (suc m) (suc m)) (suc m) (closed m (suc m)) ∙ sym (mul-sub (suc m) (suc m * suc m) 1)
   where
     last : (s n : ℕ) → 3 * s + 6 * n * (n * n) + n ≡ 4 * (n * n * n) + 3 * (n * n) * n → 3 * s ≡ n * (n * n) - n * 1
     last s n h = omega arith
 
 -- four times a square is at most 2 ^ 32, so that sums of 65,536 of them are far below 2 ^ 53
 module _ (n : ℕ) (most : n ≤ 65536) where
-  off-small : (i : ℕ) → i < n → natAbs (twiceOff n i) ≤ 65536
-  off-small i h = (apart-is (2 * i) (n - 1)) .within 65536 (omega arith) (omega arith)
+  difference-small : (i : ℕ) → i < n → natAbs (twiceDifference n i) ≤ 65536
+  difference-small i h = (apart-is (2 * i) (n - 1)) .within 65536 (omega arith) (omega arith)
 
   square-small : (i : ℕ) → i < n → fourSquare n i ≤ 4294967296
-  square-small i h = mul-le-mul (off-small i h) (off-small i h)
+  square-small i h = mul-le-mul (difference-small i h) (difference-small i h)
 
   sum-small : (k : ℕ) → k ≤ n → fourSum n k ≤ 4294967296 * k
   unfolding fourSum
@@ -115,9 +113,6 @@ one-is : oneF ≡ dy 1 0
 unfolding round
 one-is = refl
 
-whole-is : (n : ℕ) → ofInt binary64 (pos n) ≡ dy n 0
-whole-is n = dz-int (pos n)
-
 -- a square, by its size
 square-size : (z : ℤ) → natAbs z ≤ 65536 → mul binary64 (dz z 1) (dz z 1) ≡ dy (natAbs z * natAbs z) 2
 square-size (pos a) h = dz-square (pos a) 1 (omega arith) (lit≤ tt)
@@ -126,15 +121,15 @@ square-size (negsuc a) h = dz-square (negsuc a) 1 (omega arith) (lit≤ tt)
 -- m is the mean place of n places
 module _ (n : ℕ) (most : n ≤ 65536) (m : Float) (m-is : m ≡ dy (n - 1) 1) where
   -- the place i less the mean place
-  off-is : (i : ℕ) → i < n → less (dy i 0) m ≡ dz (twiceOff n i) 1
-  off-is i h =
+  difference-is : (i : ℕ) → i < n → less (dy i 0) m ≡ dz (twiceDifference n i) 1
+  difference-is i h =
       ap (λ (z : Float). less z m) (dyadic-lift false i 1 0 ∙ ap (λ (z : ℕ). dy z 1) (mul-comm i 2))
       ∙ ap (λ (z : Float). less (dy (2 * i) 1) z) m-is
       ∙ dz-sub (pos (2 * i)) (pos (n - 1)) 1 (omega arith) (omega arith) (lit≤ tt)
 
   square-is : (i : ℕ) (y : Float) → i < n → square m (dy i 0) y ≡ dy (fourSquare n i) 2
   unfolding square
-  square-is i y h = ap (λ (z : Float). mul binary64 z z) (off-is i h) ∙ square-size (twiceOff n i) (off-small n most i h)
+  square-is i y h = ap (λ (z : Float). mul binary64 z z) (difference-is i h) ∙ square-size (twiceDifference n i) (difference-small n most i h)
 
   -- one square more
   sum-more : (i : ℕ) (y : Float) → i < n → plus (dy (fourSum n i) 2) (square m (dy i 0) y) ≡ dy (fourSum n (suc i)) 2
@@ -182,42 +177,42 @@ module _ (n : ℕ) (most : n ≤ 65536) (m : Float) (m-is : m ≡ dy (n - 1) 1) 
 
 -- ---- the accumulators
 
-is : {x y : Float} (z : ℤ) (c : ℕ) → x ≡ y → IsNumber y z c → IsNumber x z c
-is z c e v = subst (λ (x : Float). IsNumber x z c) (sym e) v
+is : {x y : Float} (z : ℤ) (c : ℕ) → x ≡ y → IsExactly y z c → IsExactly x z c
+is z c e v = subst (λ (x : Float). IsExactly x z c) (sym e) v
 
 module _ (l : List Float) (b : InBounds l) where
-  count-is : (counted l) .n ≡ dy (length l) 0
-  count-is = ap (λ (s : MeanSums). s .n) (mean-fold meanStart l) ∙ count-whole l (omega arith) ∙ whole-is (length l)
+  count-is : (meanSums l) .n ≡ dy (length l) 0
+  count-is = ap (λ (s : MeanSums). s .n) (mean-fold meanStart l) ∙ count-whole l (omega arith) ∙ dz-int (pos (length l))
 
-  less-one-is : less ((counted l) .n) oneF ≡ dy (length l - 1) 0
+  less-one-is : less ((meanSums l) .n) oneF ≡ dy (length l - 1) 0
   less-one-is = ap (λ (z : Float). less z oneF) count-is ∙ ap (λ (z : Float). less (dy (length l) 0) z) one-is ∙ dy-sub (length l) 1 0 (omega arith) (omega arith) (lit≤ tt)
 
-  mean-is : middle ((counted l) .n) ≡ dy (length l - 1) 1
+  mean-is : middle ((meanSums l) .n) ≡ dy (length l - 1) 1
   unfolding middle
   mean-is = ap (λ (z : Float). over z twoF) less-one-is ∙ dyadic-half false (length l - 1) 0 (omega arith) (lit≤ tt)
 
   mean-after : (k : ℕ) → (slopeAfter l k) .xmean ≡ dy (length l - 1) 1
   unfolding slopeStart
-  mean-after k = ap (λ (s : SlopeSums). s .xmean) (slope-fold (slopeStart (counted l)) (take k l)) ∙ mean-is
+  mean-after k = ap (λ (s : SlopeSums). s .xmean) (slope-fold (slopeStart (meanSums l)) (take k l)) ∙ mean-is
 
   place-after : (k : ℕ) → k ≤ length l → (slopeAfter l k) .n ≡ dy k 0
   unfolding slopeStart
   place-after k h =
       let e : length (take k l) ≡ k = length-take-le k l h in
-      ap (λ (s : SlopeSums). s .n) (slope-fold (slopeStart (counted l)) (take k l)) ∙ count-whole (take k l) (omega arith) ∙ whole-is (length (take k l)) ∙ ap (λ (z : ℕ). dy z 0) e
+      ap (λ (s : SlopeSums). s .n) (slope-fold (slopeStart (meanSums l)) (take k l)) ∙ count-whole (take k l) (omega arith) ∙ dz-int (pos (length (take k l))) ∙ ap (λ (z : ℕ). dy z 0) e
 
   divisor-after : (k : ℕ) → 1 ≤ k → k ≤ length l → divisorAfter l k ≡ dy (fourSum (length l) k) 2
   unfolding slopeStart
   divisor-after k g h =
       let e : length (take k l) ≡ k = length-take-le k l h in
-      ap (λ (s : SlopeSums). s .denominator) (slope-fold (slopeStart (counted l)) (take k l))
-      ∙ sums-are (length l) (b .1) (middle ((counted l) .n)) mean-is (take k l) (omega arith) (omega arith)
+      ap (λ (s : SlopeSums). s .denominator) (slope-fold (slopeStart (meanSums l)) (take k l))
+      ∙ sums-are (length l) (b .1) (middle ((meanSums l) .n)) mean-is (take k l) (omega arith) (omega arith)
       ∙ ap (λ (z : ℕ). dy (fourSum (length l) z) 2) e
 
-  off-after : (i : ℕ) → i < length l → less ((slopeAfter l i) .n) ((slopeAfter l i) .xmean) ≡ dz (twiceOff (length l) i) 1
-  off-after i h =
+  difference-after : (i : ℕ) → i < length l → less ((slopeAfter l i) .n) ((slopeAfter l i) .xmean) ≡ dz (twiceDifference (length l) i) 1
+  difference-after i h =
       ap (λ (z : Float). less z ((slopeAfter l i) .xmean)) (place-after i (omega arith))
-      ∙ off-is (length l) (b .1) ((slopeAfter l i) .xmean) (mean-after i) i h
+      ∙ difference-is (length l) (b .1) ((slopeAfter l i) .xmean) (mean-after i) i h
 
   square-after : (i : ℕ) (y : Float) → i < length l → square ((slopeAfter l i) .xmean) ((slopeAfter l i) .n) y ≡ dy (fourSquare (length l) i) 2
   square-after i y h =
@@ -227,12 +222,12 @@ module _ (l : List Float) (b : InBounds l) where
   sum-under : (k : ℕ) → k ≤ length l → fourSum (length l) k < 2 ^ 53
   sum-under k h = let s = sum-small (length l) (b .1) k h in omega arith
 
-  partial-is : (k : ℕ) → 1 ≤ k → k ≤ length l → IsNumber (divisorAfter l k) (pos (fourSum (length l) k)) 4
+  partial-is : (k : ℕ) → 1 ≤ k → k ≤ length l → IsExactly (divisorAfter l k) (pos (fourSum (length l) k)) 4
   partial-is k g h = is (pos (fourSum (length l) k)) 4 (divisor-after k g h) (dy-val (fourSum (length l) k) 2 (sum-under k h) (lit≤ tt))
 
-  total-is : IsNumber (divisorAfter l (length l)) (pos (length l * (length l * length l - 1))) 12
+  total-is : IsExactly (divisorAfter l (length l)) (pos (length l * (length l * length l - 1))) 12
   total-is =
-      subst (λ (z : ℕ). HasValue (divisorAfter l (length l)) false z 12) (closed-all (length l) (omega arith))
+      subst (λ (z : ℕ). HasValue (divisorAfter l (length l)) false z 12) (closed-all (length l))
       (thirds (divisorAfter l (length l)) (fourSum (length l) (length l)) (partial-is (length l) (omega arith) (omega arith)))
     where
       thirds : (x : Float) (a : ℕ) → HasValue x false a 4 → HasValue x false (3 * a) 12
@@ -291,7 +286,7 @@ exact-divisor =
       less-one = λ l b. is (pos (length l - 1)) 1 (less-one-is l b) (dy-val (length l - 1) 0 (omega arith) (lit≤ tt));
       mean-place = λ l b k. is (pos (length l - 1)) 2 (mean-after l b k) (dy-val (length l - 1) 1 (omega arith) (lit≤ tt));
       place = λ l b i h. is (pos i) 1 (place-after l b i (omega arith)) (dy-val i 0 (omega arith) (lit≤ tt));
-      difference = λ l b i h. is (twiceOff (length l) i) 2 (off-after l b i h) (let s = off-small (length l) (b .1) i h in dz-val (twiceOff (length l) i) 1 (omega arith) (lit≤ tt));
+      difference = λ l b i h. is (twiceDifference (length l) i) 2 (difference-after l b i h) (let s = difference-small (length l) (b .1) i h in dz-val (twiceDifference (length l) i) 1 (omega arith) (lit≤ tt));
       squared = λ l b i h y. is (pos (fourSquare (length l) i)) 4 (square-after l b i y h) (let s = square-small (length l) (b .1) i h in dy-val (fourSquare (length l) i) 2 (omega arith) (lit≤ tt));
       partial = partial-is;
       total = total-is;
