@@ -1,6 +1,7 @@
 """Questions on floats: rounding, max, min, abs, sums, slope, acceleration, SNR."""
 import math
 
+from rounding_parts import HALFWAY, NEAR, NOT_FINITE, PARTS, WHOLE, part_of
 from seeded import bits, of_bits
 
 COUNT = 2000
@@ -145,6 +146,36 @@ def of_list(name, r, pairs=False):
     return [" ".join([name] + [bits(x) for x in values]) for values in lists]
 
 
+def of_part(r, part):
+    """A float that may fall to this part of whole rounding."""
+    sign, kind = -1.0 if r.chance(1, 2) else 1.0, r.below(4)
+    whole = r.between(0, (1 << r.between(1, 52)) - 1)
+    if part == NOT_FINITE:
+        return of_bits(r.word() | 0x7FF0000000000000)
+    if part == WHOLE:
+        return sign * (math.ldexp(whole, r.between(0, 970)) if kind == 0 else float(whole))
+    if part == HALFWAY:
+        return sign * (whole + 0.5)
+    if kind == 0:
+        return of_bits(r.word() & 0x800FFFFFFFFFFFFF)
+    if kind == 1:
+        return sign * math.nextafter(whole + 0.5, math.inf if r.chance(1, 2) else 0.0)
+    if kind == 2:
+        return sign * math.nextafter(float(whole), math.inf if r.chance(1, 2) else 0.0)
+    return sign * r.unit() * 2.0 ** r.between(-60, 51)
+
+
+def of_parts(r, count=1100):
+    """For each part of whole rounding, different operands that fall to it, the edges first."""
+    for part in PARTS:
+        found = dict.fromkeys(bits(x) for x in [of_bits(n) for n in NANS] + edges() if part_of(x) == part)
+        while len(found) < count:
+            x = of_part(r, part)
+            if part_of(x) == part:
+                found[bits(x)] = None
+        yield from (f"round {word}" for word in found)
+
+
 def lines(r):
     scaled = [x / 100.0 for x in edges() if abs(x) < 2.0**60] + [0.125, -0.125, 0.375, -0.375, 2.675, 1.005]
     yield from of_one("round", edges(), r)
@@ -158,3 +189,4 @@ def lines(r):
     for name in ("sum", "mean", "slope", "acceleration"):
         yield from of_list(name, r)
     yield from of_list("snr", r, pairs=True)
+    yield from of_parts(r)

@@ -1,13 +1,11 @@
 -- Floats from zero up, minus zero left out: an absolute value is one, and so is the sum of two. Assumes nothing.
 use Prim.Native.Nat.{ℕ, zero, suc, _+_, _*_, _^_, _<_}
 use native.Mathlib.Nat.{zero-mul, mul-pos, zero-lt-suc}
-use mathlib.Core.Path.{_≡_}
 use native.Mathlib.Omega.{arith}
 use mathlib.Core.Bool.{Bool, true, false, not, cond}
 use lib.IntN.{ℤ, pos}
 use lib.Dec.{T, ltb, ltb→lt, lt→ltb, not-T}
 use lib.Ieee.Fits.{up-pos}
-use lib.Ieee.Positive.{first-pos}
 use lib.Ieee.{Float, nan, inf, fin, Format, up, down, lt, le, add, sum, round, units, odd, low, emax, prec}
 use Rattle.arith.specs.Order.{absOf}
 use Rattle.arith.proofs.FloatOrder.{Number, AtMost, le-of}
@@ -40,21 +38,7 @@ zero-le x n = le-of nought x (zero-most x n)
 
 -- ---- zero and a float's sign and size
 
--- a float with no minus sign is above zero exactly where its significand is, and one with a minus sign is below zero exactly there
-pub size-above : (m : ℕ) (e : ℤ) → T (lt nought (fin false m e)) → 0 < m
-unfolding lt
-size-above m e h = first-pos m (up e) (first-pos (m * up e) 1 (over (0 * down e) (m * up e * 1) (ltb→lt (0 * down e) (m * up e * 1) h)))
-  where
-    over : (a b : ℕ) → a < b → 0 < b
-    over a b h = omega arith
-
-pub size-below : (m : ℕ) (e : ℤ) → T (lt (fin true m e) nought) → 0 < m
-unfolding lt
-size-below m e h = first-pos m (up e) (first-pos (m * up e) 1 (alone (m * up e * 1) (0 * down e) (zero-mul (down e)) (ltb→lt 0 (m * up e * 1 + 0 * down e) h)))
-  where
-    alone : (a b : ℕ) → b ≡ 0 → 0 < a + b → 0 < a
-    alone a b z h = omega arith
-
+-- a float other than zero is above it or below it by its sign
 sized : (m : ℕ) (e : ℤ) → 0 < suc m * up e * 1
 sized m e = mul-pos (mul-pos (zero-lt-suc m) (up-pos e)) (zero-lt-suc 0)
 

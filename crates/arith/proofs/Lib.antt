@@ -8,4 +8,6 @@ pub mod Dyadic
 pub mod ExactDivisor
 pub mod SumLaws
 pub mod RoundingLaws
+pub mod RoundingParts
 pub mod RoundSteps
+pub mod PartSteps

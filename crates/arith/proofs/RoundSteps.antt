@@ -1,22 +1,19 @@
--- What `half_up` and `round` of src/rounding.rt answer on each of their ways. Assumes nothing.
+-- The whole part of a float, and what `half_up` of src/rounding.rt answers. Assumes nothing.
 use mathlib.Core.Path.{_≡_, refl, sym, ap, _∙_, subst}
-use Prim.Native.Nat.{ℕ, zero, suc, _+_, _*_, _/_, _^_, _≤_, _<_}
+use Prim.Native.Nat.{ℕ, suc, _+_, _*_, _/_, _^_, _≤_, _<_}
 use native.Mathlib.Nat.{mul-one, one-mul, mul-comm, mul-assoc, mul-left-comm, mul-right-comm, add-mul, div-div-eq-div-mul, add-div-right, lt-of-lt-of-le, lt-of-mul-lt-mul-right, mul-lt-mul-of-pos-right, mul-le-mul-right, div-lt-iff-lt-mul, min-eq-left, pow-succ'}
 use native.Mathlib.Omega.{arith}
-use mathlib.Core.Bool.{true, false, true≢false, false≢true}
+use mathlib.Core.Bool.{true, false, true≢false}
 use lib.IntN.{ℤ, pos}
-use lib.Dec.{T, ltb, ltb→lt, lt→ltb, nltb→le, lit≤}
+use lib.Dec.{T, ltb→lt, lt→ltb, lit≤}
 use lib.Pow.{pow-mono, le-ones}
-use lib.Ieee.{Float, nan, inf, fin, binary64, low, up, down, round, sum, add, neg, fits, toUnsigned, lt}
+use lib.Ieee.{Float, nan, inf, fin, binary64, low, up, down, sum, add, fits, toUnsigned, lt}
 use lib.Ieee.Fits.{down-pos}
 use lib.Ieee.Exact.{HasValue}
 use lib.Ieee.Nearest.{div-same}
 use lib.Ieee.Positive.{positive, num, den, den-pos}
-use Rattle.arith.specs.Rounding.{halfUp, roundAway}
-use Rattle.arith.proofs.FloatOrder.{yes, no, contra}
-use Rattle.arith.proofs.FromZero.{nought, zero-most, size-above, size-below, above-zero, below-zero}
-use Rattle.arith.proofs.FloatValues.{double, add-at, fine, units-of, exact-in, neg-round}
-use Rattle.arith.proofs.RoundingLaws.{big-stays, zero-stays}
+use Rattle.arith.specs.Rounding.{halfUp}
+use Rattle.arith.proofs.FloatValues.{double, add-at, fine, units-of, exact-in}
 
 -- ---- the whole part of a float, as the cast to u64 has it
 
@@ -112,64 +109,3 @@ module _ (x : Float) (p : T (positive x)) (t : T (fits binary64 x)) (h : T (lt x
 
   pub whole-small : toUnsigned 64 (add binary64 x x) < 2 ^ 53
   whole-small = subst (λ (z : ℕ). z < 2 ^ 53) (sym whole-is) (div-lt-iff-lt-mul (den-pos x) .1 sum-below)
-
--- ---- `round`, on each of its ways
-
-abbrev edge : Float
-edge = fin false 1 (pos 52)
-
-pub pos-of : (x : Float) → lt nought x ≡ true → lt x edge ≡ true → T (positive x)
-unfolding lt
-pos-of nan h k = absurd (false≢true h)
-pos-of (inf true) h k = absurd (false≢true h)
-pos-of (inf false) h k = absurd (false≢true k)
-pos-of (fin true m e) h k = absurd (false≢true h)
-pos-of (fin false m e) h k = lt→ltb 0 m (size-above m e (yes (lt nought (fin false m e)) h))
-
-pub near-away : (x : Float) → T (positive x) → round binary64 false (halfUp (num x) (den x)) 1 ≡ roundAway x
-unfolding roundAway
-near-away nan p = absurd p
-near-away (inf s) p = absurd p
-near-away (fin true m e) p = absurd p
-near-away (fin false m e) p = refl
-
-far-le : (m : ℕ) (e : ℤ) → ltb (m * up e * 1) (1 * 2 ^ 52 * down e) ≡ false → 2 ^ 52 * down e ≤ m * up e
-far-le m e h = rw (mul-one, one-mul) at (nltb→le (m * up e * 1) (1 * 2 ^ 52 * down e) (no (ltb (m * up e * 1) (1 * 2 ^ 52 * down e)) h))
-
-pub far : (x : Float) → T (fits binary64 x) → lt nought x ≡ true → lt x edge ≡ false → x ≡ roundAway x
-unfolding lt roundAway
-far nan t h k = refl
-far (inf s) t h k = refl
-far (fin true m e) t h k = absurd (false≢true h)
-far (fin false m e) t h k =
-    sym (big-stays false m e (size-above m e (yes (lt nought (fin false m e)) h)) t (far-le m e k))
-
-pub pos-of-neg : (x : Float) → lt x nought ≡ true → lt (neg x) edge ≡ true → T (positive (neg x))
-unfolding lt neg
-pos-of-neg nan h k = absurd (false≢true h)
-pos-of-neg (inf true) h k = absurd (false≢true k)
-pos-of-neg (inf false) h k = absurd (false≢true h)
-pos-of-neg (fin true m e) h k = lt→ltb 0 m (size-below m e (yes (lt (fin true m e) nought) h))
-pos-of-neg (fin false m e) h k = contra (lt (fin false m e) nought) (yes _ h) (zero-most (fin false m e) tt .test)
-
-pub away-neg : (x : Float) → T (positive (neg x)) → neg (round binary64 false (halfUp (num (neg x)) (den (neg x))) 1) ≡ roundAway x
-unfolding neg roundAway
-away-neg nan p = absurd p
-away-neg (inf s) p = absurd p
-away-neg (fin false m e) p = absurd p
-away-neg (fin true m e) p = neg-round binary64 false (halfUp (m * up e) (down e)) 1
-
-pub far-neg : (x : Float) → T (fits binary64 x) → lt x nought ≡ true → lt (neg x) edge ≡ false → x ≡ roundAway x
-unfolding lt neg roundAway
-far-neg nan t h k = refl
-far-neg (inf s) t h k = refl
-far-neg (fin true m e) t h k = sym (big-stays true m e (size-below m e (yes (lt (fin true m e) nought) h)) t (far-le m e k))
-far-neg (fin false m e) t h k = contra (lt (fin false m e) nought) (yes _ h) (zero-most (fin false m e) tt .test)
-
-pub still : (x : Float) → T (fits binary64 x) → lt nought x ≡ false → lt x nought ≡ false → x ≡ roundAway x
-unfolding lt roundAway
-still nan t h k = refl
-still (inf s) t h k = refl
-still (fin s zero e) t h k = sym (zero-stays s e t)
-still (fin false (suc m) e) t h k = contra (lt nought (fin false (suc m) e)) (above-zero m e) (no _ h)
-still (fin true (suc m) e) t h k = contra (lt (fin true (suc m) e) nought) (below-zero m e) (no _ k)

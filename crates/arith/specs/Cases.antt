@@ -1,13 +1,17 @@
 -- Instances of the arithmetic of document 01, computed: each side works out to the same float.
 -- `fin s m e` is the number m * 2 ^ e, negative where s is true; `negsuc k` is the exponent -(k + 1).
-use mathlib.Core.Path.{_≡_, refl}
-use mathlib.Core.Bool.{true, false}
-use Prim.Native.Nat.{_-_, _^_}
+use mathlib.Core.Path.{_≡_, refl, ap}
+use mathlib.Core.Bool.{true, false, true≢false}
+use Prim.Native.Nat.{ℕ, _-_, _*_, _^_}
+use native.Mathlib.Omega.{arith}
 use lib.IntN.{pos, negsuc}
+use lib.Dec.{eqb, lit<}
 use lib.Ieee as I
 use lib.Ieee.{nan, inf, fin, binary64, round, sub, div}
+use Rattle.arith.specs.declared.rounding.Part.the-variants.{NotFinite, Whole, Nearest, Tie}
 use Rattle.arith.specs.Order.{maxOf, minOf, absOf}
 use Rattle.arith.specs.Rounding.{roundAway, tenTo, roundTo}
+use Rattle.arith.specs.RoundingParts.{FallsTo}
 
 -- ---- whole rounding
 
@@ -80,6 +84,52 @@ not-a-number = refl
 infinite : roundAway (inf true) ≡ inf true
 unfolding roundAway round
 infinite = refl
+
+-- -0.3 goes to -0
+minus-three-tenths : roundAway (fin true 5404319552844595 (negsuc 53)) ≡ fin true 0 (pos 0)
+unfolding roundAway round
+minus-three-tenths = refl
+
+-- ---- the part that an operand falls to, with its sign and the whole number
+
+nan-part : FallsTo nan NotFinite
+nan-part = tt
+
+infinite-part : FallsTo (inf true) NotFinite
+infinite-part = tt
+
+plus-zero-part : FallsTo (fin false 0 (pos 0)) Whole
+plus-zero-part = (false, 0, (refl, refl))
+
+minus-zero-part : FallsTo (fin true 0 (pos 0)) Whole
+minus-zero-part = (true, 0, (refl, refl))
+
+-- 2 ^ 52, and the largest float
+two-to-52-part : FallsTo (fin false 1 (pos 52)) Whole
+two-to-52-part = (false, 2 ^ 52, (refl, refl))
+
+largest-part : FallsTo (fin false (2 ^ 53 - 1) (pos 971)) Whole
+largest-part = (false, (2 ^ 53 - 1) * 2 ^ 971, (refl, refl))
+
+-- 0.49999999999999994 and -0.3 are near 0, 2.75 is near 3, and the smallest float is near 0
+below-half-part : FallsTo (fin false (2 ^ 53 - 1) (negsuc 53)) Nearest
+below-half-part = (false, 0, (refl, (λ e. omega arith, lit< tt, lit< tt)))
+
+minus-three-tenths-part : FallsTo (fin true 5404319552844595 (negsuc 53)) Nearest
+minus-three-tenths-part = (true, 0, (refl, (λ e. omega arith, lit< tt, lit< tt)))
+
+two-and-three-quarters-part : FallsTo (fin false 11 (negsuc 1)) Nearest
+two-and-three-quarters-part = (false, 3, (refl, (λ e. omega arith, lit< tt, lit< tt)))
+
+smallest-part : FallsTo (fin false 1 (negsuc 1073)) Nearest
+smallest-part = (false, 0, (refl, (λ e. true≢false (ap (λ (n : ℕ). eqb n 1) e), lit< tt, lit< tt)))
+
+-- 0.5 and 2 ^ 52 - 0.5
+half-part : FallsTo (fin false 1 (negsuc 0)) Tie
+half-part = (false, 0, (refl, refl))
+
+last-half-part : FallsTo (fin false (2 ^ 53 - 1) (negsuc 0)) Tie
+last-half-part = (false, 2 ^ 52 - 1, (refl, refl))
 
 -- ---- powers of ten: 10 ^ d is 5 ^ d * 2 ^ d
 

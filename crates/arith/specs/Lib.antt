@@ -1,5 +1,6 @@
 pub mod Order
 pub mod Rounding
+pub mod RoundingParts
 pub mod Cases
 pub mod Sums
 pub mod SlopeDivisor
