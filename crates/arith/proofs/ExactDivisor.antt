@@ -15,6 +15,7 @@ use lib.Ieee.{Float, nan, inf, fin, binary64, round, sub, mul, eq, level, up, do
 use lib.Ieee.Exact.{HasValue}
 use lib.Ieee.Fits.{mul-fits, down-pos, and-l}
 use Rattle.arith.proofs.Tests.{same}
+use Rattle.arith.proofs.FloatValues.{value-times}
 use Rattle.arith.proofs.Dyadic.{dyadic-half, dyadic-lift, dz, dz-val, dz-int, dz-sub, dz-square, dy, dy-val, dy-add, dy-sub}
 use Rattle.arith.proofs.SumLaws.{round-zero, plus-minus-zero, count-whole, mean-fold, slope-fold, from-products}
 use Rattle.arith.specs.declared.sums.MeanSums.{MeanSums}
@@ -228,15 +229,7 @@ module _ (l : List Float) (b : InBounds l) where
   total-is : IsExactly (divisorAfter l (length l)) (pos (length l * (length l * length l - 1))) 12
   total-is =
       subst (λ (z : ℕ). HasValue (divisorAfter l (length l)) false z 12) (closed-all (length l))
-      (thirds (divisorAfter l (length l)) (fourSum (length l) (length l)) (partial-is (length l) (omega arith) (omega arith)))
-    where
-      thirds : (x : Float) (a : ℕ) → HasValue x false a 4 → HasValue x false (3 * a) 12
-      thirds nan a v = v
-      thirds (inf s) a v = v
-      thirds (fin s m e) a v = (v .0, more (m * up e) a (down e) (v .1))
-        where
-          more : (x a d : ℕ) → x * 4 ≡ a * d → x * 12 ≡ 3 * a * d
-          more x a d h = omega arith
+      (value-times 3 (divisorAfter l (length l)) false (fourSum (length l) (length l)) 4 (partial-is (length l) (omega arith) (omega arith)))
 
   -- the divisor that slopeOf names is the one that is summed
   named-is : sumOf (terms (square (middle (countOf l))) l) ≡ divisorAfter l (length l)

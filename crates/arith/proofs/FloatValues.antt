@@ -2,7 +2,7 @@
 -- `HasValue x s a c` says that x is finite, has the sign s, and is a / c in size. Assumes nothing.
 use mathlib.Core.Path.{_≡_, refl, sym, ap, _∙_, subst}
 use Prim.Native.Nat.{ℕ, zero, suc, _+_, _-_, _*_, _%_, _^_, _≤_, _<_}
-use native.Mathlib.Nat.{mul-one, one-mul, mul-comm, mul-assoc, mul-right-comm, mul-mul-mul-comm, add-mul, mul-sub, mul-pos, lt-of-not-le, not-le-of-lt, lt-irrefl, lt-of-mul-lt-mul-right, mul-lt-mul-of-pos-right, le-of-suc-le-suc, pow-succ', zero-mul, zero-lt-suc}
+use native.Mathlib.Nat.{mul-one, one-mul, mul-comm, mul-assoc, mul-left-comm, mul-right-comm, mul-mul-mul-comm, add-mul, mul-sub, mul-pos, lt-of-not-le, not-le-of-lt, lt-irrefl, lt-of-mul-lt-mul-right, mul-lt-mul-of-pos-right, le-of-suc-le-suc, pow-succ', zero-mul, zero-lt-suc}
 use native.Mathlib.Omega.{arith}
 use mathlib.Core.Bool.{Bool, true, false, not, _&&_, cond}
 use lib.IntN.{ℤ, pos, negsuc}
@@ -63,6 +63,12 @@ add-at f (fin u m e) (fin v n d) s t a b c C p q =
     (same-sum f (m * up e * down d) (n * up d * down e) (down e * down d) a b c (mul-pos (down-pos e) (down-pos d)) C
     (mul-right-comm (m * up e) (down d) c ∙ ap (λ (z : ℕ). z * down d) (p .1) ∙ mul-assoc a (down e) (down d))
     (mul-right-comm (n * up d) (down e) c ∙ ap (λ (z : ℕ). z * down e) (q .1) ∙ mul-right-comm b (down d) (down e) ∙ mul-assoc b (down e) (down d)) s t)
+
+-- the same number over k times the denominator
+pub value-times : (k : ℕ) (x : Float) (s : Bool) (a c : ℕ) → HasValue x s a c → HasValue x s (k * a) (k * c)
+value-times k nan s a c p = p
+value-times k (inf u) s a c p = p
+value-times k (fin u m e) s a c p = (p .0, mul-left-comm (m * up e) k c ∙ ap (λ (z : ℕ). k * z) (p .1) ∙ sym (mul-assoc k a (down e)))
 
 neg-value : (x : Float) (s : Bool) (a c : ℕ) → HasValue x s a c → HasValue (neg x) (not s) a c
 unfolding neg

@@ -1,9 +1,9 @@
 -- What the functions of src/rounding.rt answer from `is_finite` to `round`: the tests, the part, and each part's number. Assumes nothing.
 use mathlib.Core.Path.{_≡_, refl, sym, ap, _∙_, subst}
 use Prim.Native.Nat.{ℕ, zero, suc, _+_, _-_, _*_, _/_, _^_, _≤_, _<_}
-use native.Mathlib.Nat.{mul-one, one-mul, zero-mul, mul-assoc, mul-right-comm, mul-pos, mul-le-mul-right, div-add-mod', mod-lt, mod-one, mod-le, lt-irrefl, lt-of-le-of-lt, lt-of-lt-of-le, eq-of-mul-eq-mul-right, div-lt-iff-lt-mul, zero-lt-suc}
+use native.Mathlib.Nat.{mul-one, one-mul, mul-comm, mul-assoc, mul-pos, mul-le-mul-right, div-add-mod', mod-lt, mod-one, mod-le, lt-irrefl, lt-of-le-of-lt, lt-of-lt-of-le, eq-of-mul-eq-mul-right, div-lt-iff-lt-mul, zero-lt-suc}
 use native.Mathlib.Omega.{arith}
-use mathlib.Core.Bool.{Bool, true, false, not, _||_, Bool·beq, cond, true≢false, false≢true}
+use mathlib.Core.Bool.{Bool, true, false, not, _||_, Bool·beq, cond}
 use lib.IntN.{ℤ, pos, negsuc}
 use lib.Dec.{T, ltb, eqb, ltb→lt, lt→ltb, nltb→le, eqb→eq, not-T}
 use lib.Pow.{pow-pos}
@@ -11,17 +11,18 @@ use lib.Ieee.{Float, nan, inf, fin, binary64, low, up, down, round, sum, sub, ne
 use lib.Ieee.Fits.{down-pos, and-l, and-i, eq→eqb}
 use lib.Ieee.Bits.{is-true, cond-no}
 use lib.Ieee.Exact.{HasValue}
+use lib.Ieee.Scale.{finite}
 use lib.Ieee.Back.{whole-unique, round-whole}
 use lib.Ieee.Positive.{positive, num, den, den-pos}
 use Rattle.arith.specs.declared.rounding.Part.the-variants.{Whole, Nearest, Tie}
 use Rattle.arith.specs.Order.{absOf}
 use Rattle.arith.specs.Rounding.{halfUp, roundAway}
-use Rattle.arith.specs.RoundingParts.{IsNotFinite, FallsTo, ToNearest, TiesToAway}
-use Rattle.arith.specs.Code.RoundingTests.{Tells, IsFraction}
+use Rattle.arith.specs.RoundingParts.{FallsTo, ToNearest, TiesToAway}
+use Rattle.arith.specs.Code.RoundingTests.{IsFraction}
 use Rattle.arith.proofs.FloatOrder.{no, contra, or-l}
 use Rattle.arith.proofs.FromZero.{nought, zero-most, below-zero}
-use Rattle.arith.proofs.FloatValues.{sub-at, fine, units-of, exact-in, neg-round, zero-exp}
-use Rattle.arith.proofs.RoundingLaws.{rounded-fits}
+use Rattle.arith.proofs.FloatValues.{value-times, sub-at, fine, units-of, exact-in, neg-round, zero-exp}
+use Rattle.arith.proofs.RoundingLaws.{zero-whole, rounded-fits}
 use Rattle.arith.proofs.RoundingParts.{leftOver, whole-left, near-left, half-left, big-left, whole-near, whole-halfway, fraction-below, cut-at, half-tie, four-parts}
 use Rattle.arith.proofs.RoundSteps.{cut-val, above-minus, below-top, of-below-top}
 
@@ -34,25 +35,17 @@ oneHalf = fin false 1 (negsuc 0)
 
 -- ---- tests
 
-pub told-yes : (b : Bool) (P : Type 0) → Tells b P → b ≡ true → P
-told-yes true P t e = t
-told-yes false P t e = absurd (false≢true e)
-
-pub told-no : (b : Bool) (P : Type 0) → Tells b P → b ≡ false → P → ⊥
-told-no true P t e = absurd (true≢false e)
-told-no false P t e = t
-
 -- the test of `if !b`
 pub flip : (b c : Bool) → not b ≡ c → b ≡ not c
 flip true c e = ap not e
 flip false c e = ap not e
 
 -- `is_finite`
-pub finite-told : (x : Float) → Tells (lt (absOf x) (inf false)) (IsNotFinite x → ⊥)
+pub finite-is : (x : Float) → lt (absOf x) (inf false) ≡ finite x
 unfolding lt absOf
-finite-told nan = λ (f : Unit {0} → ⊥). f tt
-finite-told (inf s) = λ (f : Unit {0} → ⊥). f tt
-finite-told (fin s m e) = λ (f : ⊥). f
+finite-is nan = refl
+finite-is (inf s) = refl
+finite-is (fin s m e) = refl
 
 -- the size of x as a fraction, below 2 ^ 52, and what is left of it by the cut
 pub abs-value : (x : Float) → T (lt (absOf x) edge) → HasValue (absOf x) false (num x) (den x)
@@ -102,21 +95,18 @@ left-exact s m (negsuc k) p t =
         times : (D z : ℕ) → 0 < z → D ≤ z * D
         times D z p = subst (λ (y : ℕ). y ≤ z * D) (one-mul D) (mul-le-mul-right D p)
 
-over-same : (z : Float) (s : Bool) (n c : ℕ) → HasValue z s n 1 → HasValue z s (n * c) c
-over-same nan s n c v = absurd v
-over-same (inf t) s n c v = absurd v
-over-same (fin t m e) s n c v = (v .0, ap (λ (z : ℕ). z * c) (sym (mul-one (m * up e)) ∙ v .1) ∙ mul-right-comm n (down e) c)
-
 -- the whole part taken off the size
 taken-off : (m : ℕ) (e : ℤ) (n : ℕ) → n ≡ m * up e / down e → n ≤ 2 ^ 53 → sub binary64 (fin false m e) (round binary64 false n 1) ≡ round binary64 false (leftOver m e) (down e)
 unfolding sum
 taken-off m e n q l =
     let M = m * up e in
     let D = down e in
-    let d : n * D + leftOver m e ≡ M = ap (λ (z : ℕ). z * D + leftOver m e) q ∙ div-add-mod' M D in
-    sub-at binary64 (fin false m e) (round binary64 false n 1) false false M (n * D) D (down-pos e) (refl, refl) (over-same (round binary64 false n 1) false n D (round-whole binary64 false n l))
-    ∙ cond-no (ltb M (n * D)) (round binary64 true (n * D - M) D) (round binary64 false (M - n * D) D) (not-T (ltb M (n * D)) (λ h. least (n * D) (leftOver m e) M d (ltb→lt M (n * D) h)))
-    ∙ ap (λ (z : ℕ). round binary64 false z D) (left (n * D) (leftOver m e) M d)
+    let whole = round binary64 false n 1 in
+    let v : HasValue whole false (D * n) D = subst (HasValue whole false (D * n)) (mul-one D) (value-times D whole false n 1 (round-whole binary64 false n l)) in
+    let d : D * n + leftOver m e ≡ M = ap (λ (z : ℕ). z + leftOver m e) (ap (λ (z : ℕ). D * z) q ∙ mul-comm D (M / D)) ∙ div-add-mod' M D in
+    sub-at binary64 (fin false m e) whole false false M (D * n) D (down-pos e) (refl, refl) v
+    ∙ cond-no (ltb M (D * n)) (round binary64 true (D * n - M) D) (round binary64 false (M - D * n) D) (not-T (ltb M (D * n)) (λ h. least (D * n) (leftOver m e) M d (ltb→lt M (D * n) h)))
+    ∙ ap (λ (z : ℕ). round binary64 false z D) (left (D * n) (leftOver m e) M d)
   where
     least : (z r M : ℕ) → z + r ≡ M → M < z → ⊥
     least z r M d h = omega arith
@@ -184,22 +174,17 @@ values-eq (fin s k i) (fin t m e) a c b d C D p q h =
 
 -- ---- which part
 
-pub not-finite-part : (x : Float) → ((IsNotFinite x → ⊥) → ⊥) → IsNotFinite x
-not-finite-part nan f = tt
-not-finite-part (inf s) f = tt
-not-finite-part (fin s m e) f = f (λ (z : ⊥). z)
-
-pub whole-part : (x f : Float) → (IsNotFinite x → ⊥) → IsFraction x f → T (eq f nought) → FallsTo x Whole
-whole-part nan f w v h = absurd (w tt)
-whole-part (inf s) f w v h = absurd (w tt)
+pub whole-part : (x f : Float) → T (finite x) → IsFraction x f → T (eq f nought) → FallsTo x Whole
+whole-part nan f w v h = absurd w
+whole-part (inf s) f w v h = absurd w
 whole-part (fin s m e) f w v h = whole-left s m e (none (leftOver m e) (down e) (eq-values f nought (leftOver m e) (down e) 0 1 v (refl, refl) h))
   where
     none : (r c : ℕ) → r * 1 ≡ 0 * c → r ≡ 0
     none r c h = omega arith
 
-pub nearest-part : (x f : Float) → (IsNotFinite x → ⊥) → IsFraction x f → T (not (eq f nought)) → T (not (eq f oneHalf)) → FallsTo x Nearest
-nearest-part nan f w v z h = absurd (w tt)
-nearest-part (inf s) f w v z h = absurd (w tt)
+pub nearest-part : (x f : Float) → T (finite x) → IsFraction x f → T (not (eq f nought)) → T (not (eq f oneHalf)) → FallsTo x Nearest
+nearest-part nan f w v z h = absurd w
+nearest-part (inf s) f w v z h = absurd w
 nearest-part (fin s m e) f w v z h =
     near-left s m e (λ g. contra (eq f nought) (values-eq f nought (leftOver m e) (down e) 0 1 (down-pos e) (zero-lt-suc 0) v (refl, refl) (none (leftOver m e) (down e) g)) z)
     (λ g. contra (eq f oneHalf) (values-eq f oneHalf (leftOver m e) (down e) 1 2 (down-pos e) (zero-lt-suc 1) v (refl, refl) (g ∙ sym (one-mul (down e)))) h)
@@ -207,16 +192,16 @@ nearest-part (fin s m e) f w v z h =
     none : (r c : ℕ) → r ≡ 0 → r * 1 ≡ 0 * c
     none r c h = omega arith
 
-pub tie-part : (x f : Float) → (IsNotFinite x → ⊥) → IsFraction x f → T (eq f oneHalf) → FallsTo x Tie
-tie-part nan f w v h = absurd (w tt)
-tie-part (inf s) f w v h = absurd (w tt)
+pub tie-part : (x f : Float) → T (finite x) → IsFraction x f → T (eq f oneHalf) → FallsTo x Tie
+tie-part nan f w v h = absurd w
+tie-part (inf s) f w v h = absurd w
 tie-part (fin s m e) f w v h = half-left s m e (eq-values f oneHalf (leftOver m e) (down e) 1 2 v (refl, refl) h ∙ one-mul (down e))
 
 -- ---- the parts' functions
 
 -- what is no whole number is not zero
 not-zero : (s : Bool) (m : ℕ) (e : ℤ) → (FallsTo (fin s m e) Whole → ⊥) → 0 < m
-not-zero s zero e f = absurd (f (s, 0, (refl, ap (λ (z : ℕ). z * 1) (zero-mul (up e)) ∙ sym (zero-mul (down e)))))
+not-zero s zero e f = absurd (f (whole-left s 0 e (zero-whole s e)))
 not-zero s (suc m) e f = zero-lt-suc m
 
 -- what lies beside the whole numbers: not zero, and below 2 ^ 52

@@ -28,6 +28,14 @@ Whole nan = Unit {0}
 Whole (inf s) = Unit {0}
 Whole (fin s m e) = m * up e % down e ≡ 0
 
+pub of-value : (x : Float) (s : Bool) (n : ℕ) → HasValue x s n 1 → Whole x
+of-value nan s n v = tt
+of-value (inf t) s n v = tt
+of-value (fin t m e) s n v = ap (λ (z : ℕ). z % down e) (sym (mul-one (m * up e)) ∙ v .1) ∙ mul-mod-left n (down e)
+
+pub zero-whole : (s : Bool) (e : ℤ) → Whole (fin s zero e)
+zero-whole s e = ap (λ (z : ℕ). z % down e) (zero-mul (up e) ∙ sym (zero-mul (down e))) ∙ mul-mod-left 0 (down e)
+
 upward : (s : Bool) (m k : ℕ) → 0 < m → T (fits binary64 (fin s m (pos k))) → round binary64 s (halfUp (m * 2 ^ k) 1) 1 ≡ fin s m (pos k)
 upward s m k p t =
     let v = round-own binary64 s m (pos k) p t in
@@ -81,17 +89,12 @@ pub rounded-whole : (x : Float) → T (fits binary64 x) → Whole (roundAway x)
 unfolding roundAway
 rounded-whole nan t = tt
 rounded-whole (inf s) t = tt
-rounded-whole (fin s zero e) t = subst Whole (sym (zero-stays s e t)) (ap (λ (z : ℕ). z % down e) (zero-mul (up e) ∙ sym (zero-mul (down e))) ∙ mul-mod-left 0 (down e))
+rounded-whole (fin s zero e) t = subst Whole (sym (zero-stays s e t)) (zero-whole s e)
 rounded-whole (fin s (suc m) e) t = elim (lt-or-ge (suc m * up e) (2 ^ 52 * down e)) [
   | inl l ↦ of-value (round binary64 s (halfUp (suc m * up e) (down e)) 1) s (halfUp (suc m * up e) (down e)) (round-whole binary64 s (halfUp (suc m * up e) (down e)) (small (suc m * up e) (down e) (down-pos e) l))
   | inr g ↦ subst Whole (sym (big-stays s (suc m) e (zero-lt-suc m) t g)) (big-whole s (suc m) e (zero-lt-suc m) t g)
 ]
   where
-    of-value : (x : Float) (s : Bool) (n : ℕ) → HasValue x s n 1 → Whole x
-    of-value nan s n v = tt
-    of-value (inf t) s n v = tt
-    of-value (fin t m e) s n v = ap (λ (z : ℕ). z % down e) (sym (mul-one (m * up e)) ∙ v .1) ∙ mul-mod-left n (down e)
-
     near : (M D : ℕ) → 0 < D → M < 2 ^ 52 * D → 2 * M + D < 2 ^ 53 * (2 * D)
     near M D p l = omega arith
 

@@ -1,7 +1,7 @@
 -- The four parts of whole rounding: the proof of `FourParts` of specs/RoundingParts.antt. Assumes nothing.
 use mathlib.Core.Path.{_≡_, refl, sym, ap, _∙_, subst}
 use Prim.Native.Nat.{ℕ, zero, suc, _+_, _*_, _/_, _%_, _^_, _≤_, _<_}
-use native.Mathlib.Nat.{mul-one, zero-mul, zero-lt-suc, div-add-mod', mod-lt, mul-mod-left, le-of-lt, div-lt-iff-lt-mul, le-div-iff-mul-le, lt-of-mul-lt-mul-right, eq-of-mul-eq-mul-right}
+use native.Mathlib.Nat.{mul-one, zero-lt-suc, div-add-mod', mod-lt, le-of-lt, div-lt-iff-lt-mul, le-div-iff-mul-le, lt-of-mul-lt-mul-right, eq-of-mul-eq-mul-right}
 use native.Mathlib.Omega.{arith}
 use mathlib.Core.Logic.{inl, inr}
 use mathlib.Core.Bool.{Bool}
@@ -16,7 +16,7 @@ use Rattle.arith.specs.declared.rounding.Part.the-variants.{NotFinite, W
 use Rattle.arith.specs.Rounding.{halfUp, roundAway}
 use Rattle.arith.specs.RoundingParts.{IsNotFinite, IsWhole, Near, IsNear, FallsTo, ToNearest, TiesToAway, FourParts}
 use Rattle.arith.proofs.FloatOrder.{decide, contra, lt-or-ge}
-use Rattle.arith.proofs.RoundingLaws.{whole-stays, big-whole, half-up-near}
+use Rattle.arith.proofs.RoundingLaws.{of-value, zero-whole, whole-stays, big-whole, half-up-near}
 
 -- ---- a / c among the whole numbers
 
@@ -153,13 +153,11 @@ not-finite (inf s) f = refl
 not-finite (fin s m e) f = absurd f
 
 whole : (x : Float) → T (fits binary64 x) → (s : Bool) (n : ℕ) → IsWhole x s n → roundAway x ≡ x
-whole nan t s n h = absurd h
-whole (inf u) t s n h = absurd h
-whole (fin u m e) t s n h = whole-stays (fin u m e) t (ap (λ (z : ℕ). z % down e) (sym (mul-one (m * up e)) ∙ h .1) ∙ mul-mod-left n (down e))
+whole x t s n h = whole-stays x t (of-value x s n h)
 
 -- from 2 ^ 52 on nothing is left
 pub big-left : (s : Bool) (m : ℕ) (e : ℤ) → T (fits binary64 (fin s m e)) → 2 ^ 52 * down e ≤ m * up e → leftOver m e ≡ 0
-big-left s zero e t g = ap (λ (z : ℕ). z % down e) (zero-mul (up e) ∙ sym (zero-mul (down e))) ∙ mul-mod-left 0 (down e)
+big-left s zero e t g = zero-whole s e
 big-left s (suc m) e t g = big-whole s (suc m) e (zero-lt-suc m) t g
 
 -- so what is no whole number lies below

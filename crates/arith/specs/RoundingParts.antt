@@ -2,11 +2,12 @@
 -- A part is told by what the operand is. A finite float has a sign and a size, which is the fraction m * up e / down e, and what counts is how that fraction lies among the whole
 -- numbers; how the code finds out does not come up. The proof is `four-parts` of proofs/RoundingParts. Definitions only.
 use Prim.Native.Nat.{ℕ, _+_, _*_, _<_}
-use mathlib.Core.Bool.{Bool}
+use mathlib.Core.Bool.{Bool, not}
 use mathlib.Core.Path.{_≡_}
 use lib.Dec.{T}
 use lib.Ieee.{Float, nan, inf, fin, binary64, up, down, fits}
 use lib.Ieee.Exact.{HasValue}
+use lib.Ieee.Scale.{finite}
 use Rattle.arith.specs.declared.rounding.Part.{Part}
 use Rattle.arith.specs.declared.rounding.Part.the-variants.{NotFinite, Whole, Nearest, Tie}
 use Rattle.arith.specs.Rounding.{roundAway}
@@ -15,9 +16,7 @@ use Rattle.arith.specs.Rounding.{roundAway}
 
 -- 1. a NaN or an infinity
 abbrev pub IsNotFinite : Float → Type 0
-IsNotFinite nan = Unit {0}
-IsNotFinite (inf s) = Unit {0}
-IsNotFinite (fin s m e) = ⊥
+IsNotFinite x = T (not (finite x))
 
 -- 2. of the sign s, and in size the whole number n: 0 is one, of either sign, and so is every finite float from 2 ^ 52 up
 abbrev pub IsWhole : Float → Bool → ℕ → Type 0

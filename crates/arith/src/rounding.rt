@@ -8,9 +8,10 @@ ghost use lib.IntN.{pos};
 ghost use lib.Ieee as Ieee;
 ghost use lib.Ieee.{fin, binary64, lt, neg};
 ghost use lib.Ieee.Positive.{positive, num, den};
+ghost use lib.Ieee.Scale.{finite};
 ghost use Rattle.arith.specs.Rounding.{halfUp, roundAway, tenTo, roundTo};
 ghost use Rattle.arith.specs.RoundingParts.{IsNotFinite, FallsTo, ToNearest, TiesToAway, FourParts};
-ghost use Rattle.arith.specs.Code.RoundingTests.{Tells, IsFraction};
+ghost use Rattle.arith.specs.Code.RoundingTests.{IsFraction};
 ghost use Rattle.arith.specs.declared.rounding.Part.the-variants.{Whole, Nearest, Tie};
 use crate::order::abs;
 
@@ -23,7 +24,7 @@ enum Part {
 }
 
 fn is_finite(x: f64) -> bool
-    ensures { λ r. ⌜ Tells r (IsNotFinite x → ⊥) ⌝ }
+    ensures { λ r. ⌜ r ≡ finite x ⌝ }
 {
     abs(x) < 1.0 / 0.0
 }

@@ -1,13 +1,8 @@
--- What whole rounding's tests find out of an operand, before it falls to a part of specs/RoundingParts.antt. Definitions only.
+-- What whole rounding finds out of an operand before it falls to a part of specs/RoundingParts.antt. Definitions only.
 use Prim.Native.Nat.{_*_, _%_}
-use mathlib.Core.Bool.{Bool, true, false}
+use mathlib.Core.Bool.{false}
 use lib.Ieee.{Float, nan, inf, fin, up, down}
 use lib.Ieee.Exact.{HasValue}
-
--- b tells whether P holds
-abbrev pub Tells : Bool → Type 0 → Type 0
-Tells true P = P
-Tells false P = P → ⊥
 
 -- r is what the size of x has behind the point, exactly; where x is not finite nothing is said
 abbrev pub IsFraction : Float → Float → Type 0
