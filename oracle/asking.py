@@ -2,7 +2,7 @@
 import os
 import subprocess
 
-from seeded import bits
+from seeded import bits, of_bits
 
 HERE = os.path.dirname(os.path.abspath(__file__))
 RUN, MODEL, GENERATE = (os.path.join(HERE, name) for name in ("run", "model", "generate"))
@@ -74,3 +74,14 @@ def timed(text):
         high, low = pair.split("/")
         lines += ["b " + bar(t, float(high), float(low)) for t in range(int(first), int(last) + 1)]
     return lines
+
+
+def lowered(calls, taken):
+    """The same calls with so much taken from each bar's four prices."""
+    out = []
+    for call in calls:
+        words = call.split(" ")
+        if words[0] == "b":
+            words[3:7] = [bits(of_bits(int(word, 16)) - taken) for word in words[3:7]]
+        out.append(" ".join(words))
+    return out

@@ -55,12 +55,19 @@ def acceleration(closes):
     return (x2y * a - xy * b + y0 * c) / (x4 * a - x3 * b + x2 * c)
 
 
+def change(s):
+    """From start to end, by the start; 0.0 for a start of zero."""
+    if s.start.fx == 0.0:
+        return 0.0
+    return places((s.end.fx - s.start.fx) / s.start.fx, 10000.0)
+
+
 def measure(s, named):
     inner = [named[t] for b in s.bars[1:-1] for t in b.elements]
     closes = [b.close for b in inner]
     numbers = [stroke_high(s), stroke_low(s), places(abs(s.end.fx - s.start.fx), 100.0),
                total([b.vol for b in s.bars[1:-1]]), snr(inner), places(snr(inner), 10000.0),
-               places((s.end.fx - s.start.fx) / s.start.fx, 10000.0), slope(closes), acceleration(closes)]
+               change(s), slope(closes), acceleration(closes)]
     yield words("measure", *numbers, len(s.bars), len(inner))
     yield words("inner", *(b.time for b in inner))
     for a, b in fake_pairs(s.fractals):
@@ -167,13 +174,18 @@ def unfinished_summary(a, fractals, named):
     return words("unfinished", way(not a.strokes[-1].up), high, low, high_time, low_time, *counts, fractals[0].time)
 
 
+def ratio(low, high):
+    """A gap's size by its lower edge, or the word none where that edge is zero or less: no ratio there."""
+    return places(high / low - 1.0, 10000.0) if low > 0.0 else "none"
+
+
 def gaps(raw):
     for n, (a, b) in enumerate(zip(raw, raw[1:])):
         rest = raw[n + 1:]
         if a.high < b.low:
-            yield words("gap up", a.high, b.low, places(b.low / a.high - 1.0, 10000.0), any(x.low < a.high for x in rest))
+            yield words("gap up", a.high, b.low, ratio(a.high, b.low), any(x.low < a.high for x in rest))
         elif a.low > b.high:
-            yield words("gap down", b.high, a.low, places(a.low / b.high - 1.0, 10000.0), any(x.high > a.low for x in rest))
+            yield words("gap down", b.high, a.low, ratio(b.high, a.low), any(x.high > a.low for x in rest))
         else:
             yield "gap none"
 

@@ -21,6 +21,11 @@ class Fractal:
         self.fx = self.high if top else self.low
 
 
+def price_allowed(p):
+    """Question 6: zero, but not minus zero, or of magnitude 2^-20 to 2^30."""
+    return str(p) == "0.0" or 2.0**-20 <= abs(p) <= 2.0**30
+
+
 def alone(bar):
     return Merged(*bar, (bar.time,))
 
@@ -136,7 +141,7 @@ class Analyzer:
     def ask_bar(self, bar):
         prices = (bar.open, bar.close, bar.high, bar.low)
         checks = [(5, -2**40 <= bar.time <= 2**40),
-                  (6, all(2.0**-20 <= p <= 2.0**30 for p in prices)),
+                  (6, all(price_allowed(p) for p in prices)),
                   (7, all(0 <= q <= 2.0**50 and str(q)[0] != "-" for q in (bar.vol, bar.amount))),
                   (8, bar.low <= bar.high),
                   (9, not self.raw or bar.time >= self.raw[-1].time),

@@ -3,9 +3,11 @@ questions 5 to 8 of document 01."""
 import math
 
 from asking import bar
-from styles import HIGHEST, LOWEST
+from styles import HIGHEST, LOWEST, allowed, both_signs
 
 COUNT = 2000
+# remove_include and gaps with prices at and below zero
+MORE_MERGES, MORE_GAPS = 300, 400
 
 
 def ranges(values):
@@ -44,7 +46,8 @@ def written(r, list_of_ranges):
     time, out = r.pick([-7, 0, 100, 1600000000]), []
     for high, low in list_of_ranges:
         time += r.between(1, 3)
-        spots = [high, low, high, low, low + (high - low) * 0.5]
+        middle = low + (high - low) * 0.5
+        spots = [high, low, high, low, middle if allowed(middle) else low]
         volumes = [0.0, 1.0, 0.1, 2.0**50, r.between(0, 99999) / 100.0]
         out.append(bar(time, high, low, r.pick(spots), r.pick(spots), r.pick(volumes), r.pick(volumes), r.between(-9, 999)))
     return " ".join(out)
@@ -79,7 +82,50 @@ def of_gaps(r):
     return ["gaps"] + [f"gaps {written(r, x)}" for x in lists]
 
 
+def signed_edges(r):
+    """A handful of values at, below and on both sides of zero."""
+    kind = r.below(6)
+    if kind == 0:
+        return [float(k) for k in range(-2, 3)]
+    if kind == 1:
+        return both_signs(close_to(math.nextafter(LOWEST, 1.0))) + [0.0, 0.0]
+    if kind == 2:
+        return [-r.between(1, 200000) / 100.0 for _ in range(4)]
+    if kind == 3:
+        return both_signs([LOWEST, math.nextafter(HIGHEST, 0.0), HIGHEST]) + [0.0]
+    if kind == 4:
+        return [r.between(-3, 3) * r.pick([0.01, 0.25, 1.0]) for _ in range(4)] + [0.0]
+    return [r.pick([1.0, -1.0]) * 2.0 ** r.between(-19, 29) * (1.0 + r.unit()) for _ in range(4)]
+
+
+def some_signed(r, count):
+    values = signed_edges(r)
+    return [r.pick(ranges(values)) for _ in range(count)]
+
+
+def signed_stairs(r, count):
+    """Bars that jump, in cents, on both sides of zero: gaps with and without a ratio."""
+    at, out = r.between(-60, 60), []
+    for _ in range(count):
+        at += r.between(-60, 60)
+        out.append(((at + r.below(6)) / 100.0, (at - r.below(6)) / 100.0))
+    return out
+
+
+def signed(r):
+    """Request three: remove_include and gaps with prices at and below zero."""
+    merges = triples([-1.0, 0.0, 1.0])
+    merges += [some_signed(r, 3) for _ in range(MORE_MERGES - len(merges))]
+    yield from [f"remove_include {written(r, x)}" for x in merges]
+    gaps = triples([-1.0, 0.0, 2.0])
+    while len(gaps) < MORE_GAPS:
+        count = r.between(2, 5)
+        gaps.append(signed_stairs(r, count) if r.chance(1, 2) else some_signed(r, count))
+    yield from [f"gaps {written(r, x)}" for x in gaps]
+
+
 def lines(r):
     yield from of_three("remove_include", r)
     yield from of_three("check_fx", r)
     yield from of_gaps(r)
+    yield from signed(r)

@@ -8,6 +8,8 @@ EDGE = 1 << 40
 NAN = math.nan
 UP = math.inf
 GOOD = dict(time=10, high=12.0, low=9.0, open_=10.0, close=11.0, vol=1.0, amount=1.0, id_=1)
+# from end to end, so that any one price can be moved without failing question 8
+WIDE = {**GOOD, "high": 2.0**30, "low": -2.0**30}
 
 
 def settings():
@@ -35,6 +37,27 @@ def prices():
         yield changed(high=v, low=v)
 
 
+def around(x):
+    """A value above zero with both of its neighbours, then the same below zero."""
+    three = [x, math.nextafter(x, 0.0), math.nextafter(x, UP)]
+    return three + [-v for v in three]
+
+
+def zero():
+    """Request three: each price alone, then high and low together, at both ends of both ranges, just inside and just outside, at zero
+    and at what is no price. Then low and high on the two sides of zero."""
+    yield "n 6 50 64 64 64"
+    values = [0.0, -0.0] + around(2.0**-20) + [2.0**-21, -2.0**-21] + around(2.0**30) + [2.0**31, -2.0**31, NAN, UP, -UP, 5e-324, -5e-324, -1.0]
+    for v in values:
+        for moved in (dict(open_=v), dict(close=v), dict(high=v), dict(low=v), dict(high=v, low=v)):
+            yield "b " + bar(**{**WIDE, **moved})
+    small = 2.0**-20
+    for high, low in ((0.0, 0.0), (0.0, small), (0.0, -small), (-small, 0.0), (small, 0.0), (-small, small), (small, -small), (-1.0, -2.0),
+                      (-2.0, -1.0), (-0.0, 1.0), (1.0, -0.0)):
+        yield changed(high=high, low=low)
+    yield from [changed(time=11, high=0.0, low=-1.0, open_=-1.0, close=0.0), changed(time=12, high=-3.0, low=-4.0, open_=-3.0, close=-4.0), "d", "r"]
+
+
 def quantities():
     most = 2.0**50
     for v in [0.0, -0.0, 5e-324, -5e-324, most, math.nextafter(most, UP), math.nextafter(most, 0.0), UP, -UP, NAN, -1.0]:
@@ -42,7 +65,7 @@ def quantities():
         yield changed(amount=v)
 
 
-def lines(r):
+def first_lines():
     yield from settings()
     yield "n 6 50 64 64 64"
     yield from [changed(time=t) for t in (-EDGE - 1, EDGE + 1, -(1 << 63), (1 << 63) - 1, -EDGE, -EDGE, 0, 10)]
@@ -54,3 +77,8 @@ def lines(r):
                 changed(time=9, high=1.0), changed(time=9), changed(time=EDGE, high=1.0), changed(time=EDGE), changed(time=EDGE)]
     yield from ["d", "r", "n 6 50 15 64 64", "d", "x", "b", "n 6 50 64 64", "b 11 1 " + " ".join([bits(10.0)] * 5), "d d", " d", "D"]
     yield from ["b 11 1 " + " ".join([bits(10.0).upper().replace("4", "A")] * 6), "b 11.5 1 " + " ".join([bits(10.0)] * 6)]
+
+
+def lines(r):
+    yield from first_lines()
+    yield from zero()

@@ -1,8 +1,14 @@
 """Styles of bars. Each is made from a source of random numbers and gives, call by call, (open, close, high, low).
-Every bar has its four prices in 2^-20 .. 2^30 and a low that is at most the high."""
+Every bar has four prices that are plain zero or of magnitude 2^-20 to 2^30, and a low that is at most the high. Prices at or below
+zero come in the last four styles only."""
 import math
 
 LOWEST, HIGHEST = 2.0**-20, 2.0**30
+
+
+def allowed(price):
+    """Whether it passes question 6. Minus zero does not."""
+    return LOWEST <= abs(price) <= HIGHEST or (price == 0.0 and math.copysign(1.0, price) > 0.0)
 
 
 def body(r, high, low, choices):
@@ -135,4 +141,89 @@ class Ends:
         return r.pick(self.values), r.pick(self.values), high, low
 
 
-STYLES = {"walk": Walk, "five": Five, "nested": Nested, "zigzag": Zigzag, "cents": Cents, "ends": Ends}
+class Below:
+    """Another style upside down: all prices below zero."""
+
+    def __init__(self, r):
+        self.other = r.pick([Walk, Five, Nested, Zigzag, Cents])(r)
+
+    def bar(self):
+        open_, close, high, low = self.other.bar()
+        return -open_, -close, -low, -high
+
+
+def both_signs(values):
+    """The values, which are above zero, and as many below; none of them is zero, whose negative is barred."""
+    return [-v for v in values] + values
+
+
+class At:
+    """Plain zero, often, and a few values above it, below it or both: the smallest magnitudes, neighbouring floats among them, and small
+    whole numbers. Legs go from one end of the values to the other, so that strokes start and end at zero too."""
+
+    def __init__(self, r):
+        smallest = [LOWEST, math.nextafter(LOWEST, math.inf), 2.0 * LOWEST]
+        values = r.pick([smallest, [1.0, 2.0, 3.0, 4.0], smallest + [0.01, 1.0, 2.0]])
+        values = r.pick([both_signs(values), both_signs(values), values, [-v for v in values]])
+        self.r, self.values = r, sorted(values + [0.0] * r.between(1, 3))
+        self.place, self.way = r.below(len(self.values)), 1
+
+    def near(self):
+        """A narrow bar, a few values on from the one before."""
+        r, last = self.r, len(self.values) - 1
+        if r.chance(1, 6) or not 0 < self.place < last:
+            self.way = r.pick([1, -1]) if 0 < self.place < last else 1 if self.place == 0 else -1
+        self.place = min(max(self.place + self.way * r.below(3), 0), last)
+        return self.values[max(self.place - r.below(2), 0)], self.values[min(self.place + r.below(2), last)]
+
+    def bar(self):
+        r = self.r
+        low, high = sorted((r.pick(self.values), r.pick(self.values))) if r.chance(1, 3) else self.near()
+        return r.pick(self.values), r.pick(self.values), high, low
+
+
+class Across:
+    """Legs up and down that cross zero time and again, with jumps to the other side. Prices are whole numbers of ticks, so that none is minus zero."""
+
+    def __init__(self, r):
+        self.r, self.at, self.way, self.left = r, r.between(-60, 60), r.pick([1, -1]), 5
+        self.ticks = r.pick([1.0, 4.0, 8.0, 100.0])
+
+    def move(self):
+        r = self.r
+        if self.left <= 0:
+            self.way, self.left = -self.way, r.between(1, 14)
+        if abs(self.at) > 150:
+            self.way, self.left = -1 if self.at > 0 else 1, r.between(4, 14)
+        self.left -= 1
+        self.at += self.way * r.between(0, 16)
+        if r.chance(1, 15):
+            self.at = -self.at
+
+    def bar(self):
+        r = self.r
+        self.move()
+        high, low = (self.at + r.below(7)) / self.ticks, (self.at - r.below(7)) / self.ticks
+        return *body(r, high, low, [high, low, self.at / self.ticks, 0.0]), high, low
+
+
+class Signed:
+    """Prices at the ends of both ranges, below and above zero, neighbouring floats among them."""
+
+    def __init__(self, r):
+        self.r = r
+        small, large = [LOWEST], [HIGHEST]
+        for _ in range(6):
+            small.append(math.nextafter(small[-1], math.inf))
+            large.append(math.nextafter(large[-1], 0.0))
+        self.values = r.pick([[-v for v in small], [-v for v in large], both_signs(small[:3]), both_signs(large[:3]),
+                              both_signs(small[:2] + large[:2]), both_signs(small[:1] + large[:2]) + [0.0, -1.0, 1.5]])
+
+    def bar(self):
+        r = self.r
+        low, high = sorted((r.pick(self.values), r.pick(self.values)))
+        return r.pick(self.values), r.pick(self.values), high, low
+
+
+STYLES = {"walk": Walk, "five": Five, "nested": Nested, "zigzag": Zigzag, "cents": Cents, "ends": Ends,
+          "below": Below, "at": At, "across": Across, "signed": Signed}

@@ -139,7 +139,7 @@ fn repeats_for(bars: usize) -> usize {
 }
 
 /// The series of a table: a name, a style of oracle/generate, how many bars in ten keep the last time, and the lengths.
-const STYLES: [(&str, &str, usize, &[usize]); 5] = [
+const STYLES: [(&str, &str, usize, &[usize]); 6] = [
     ("random walk", "walk", 0, &[1000, 10000, 100000, 1000000]),
     ("zigzag", "zigzag", 0, &[1000, 10000, 100000, 1000000]),
     ("deep merging", "nested", 0, &[1000, 10000, 100000, 1000000]),
@@ -150,6 +150,7 @@ const STYLES: [(&str, &str, usize, &[usize]); 5] = [
         5,
         &[1000, 10000, 100000],
     ),
+    ("across zero", "across", 0, &[1000, 10000]),
 ];
 
 /// Every series that is asked for, named as in the table or with its number of bars behind it; all of them where none is named.
@@ -165,6 +166,12 @@ fn each_series(only: &[String], mut each: impl FnMut(&str, Vec<Fed>)) {
             if wanted(name, bars) {
                 each(name, series::generated(style, bars, replaced));
             }
+        }
+    }
+    for bars in [1000, 10000] {
+        if wanted("walk below zero", bars) {
+            let walk = series::generated("walk", bars, 0);
+            each("walk below zero", series::upside_down(walk));
         }
     }
     for bars in [1000, 1250, 2500, 5000] {

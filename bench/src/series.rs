@@ -43,6 +43,15 @@ fn bar(line: &str) -> Fed {
     }
 }
 
+/// The same bars upside down: every price with the other sign, high and low exchanged.
+pub fn upside_down(mut bars: Vec<Fed>) -> Vec<Fed> {
+    for bar in &mut bars {
+        let [open, close, high, low, vol, amount] = bar.values;
+        bar.values = [-open, -close, -low, -high, vol, amount];
+    }
+    bars
+}
+
 /// Each bar wholly above the last: no bars merge and there is no fractal.
 pub fn rising(bars: usize) -> Vec<Fed> {
     let one = |n: usize| {

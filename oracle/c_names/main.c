@@ -66,6 +66,25 @@ static void answered(const char *what, uint64_t got) {
   memcpy(&old, &now, sizeof now);
 }
 
+/* Question 4 of a price that a store holds: refused with each value that is no price. Open and close stand in no order with the
+   rest, so there each value that is a price is let through. */
+static void held(const char *what, double *at, int free, int64_t t) {
+  double no[] = {-0.0, 0x1p-21, -0x1p-21, 0x1.fffffffffffffp-21, -0x1.fffffffffffffp-21, 0x1.0000000000001p30, -0x1.0000000000001p30, strtod("nan", 0), strtod("inf", 0), strtod("-inf", 0)};
+  double yes[] = {0.0, 0x1p-20, -0x1p-20, 0x1p30, -0x1p30, 5.0, -5.0};
+  double kept = *at;
+  for (size_t i = 0; i < sizeof no / sizeof *no; i++) {
+    *at = no[i]; memcpy(&old, &now, sizeof now);
+    refused(what, feed_with(&now, 2, 3, 2, full, t + 1, 30, 20, 1), 4);
+  }
+  for (size_t i = 0; free && i < sizeof yes / sizeof *yes; i++) {
+    *at = yes[i]; memcpy(&old, &now, sizeof now);
+    tried++;
+    if (feed_with(&now, 2, 3, 2, full, t + 1, 30, 20, 1) == 4) { wrong++; printf("%s: %a is a price and was answered 4\n", what, yes[i]); }
+    memcpy(&now, &old, sizeof now);
+  }
+  *at = kept; memcpy(&old, &now, sizeof now);
+}
+
 int main(void) {
   for (int i = 0; i < 15; i++) full[i] = ROOM;
   memset(&now, 0x5a, sizeof now);
@@ -98,6 +117,9 @@ int main(void) {
     }
     refused("a time beyond 2^40", feed_with(&now, 2, 3, 2, full, 1099511627777, base + 2, base, 1), 5);
     refused("a price that is no number", feed_with(&now, 2, 3, 2, full, t + 1, nan, base, 1), 6);
+    refused("a price of minus zero", feed_with(&now, 2, 3, 2, full, t + 1, base, -zero, 1), 6);
+    refused("a price of 2^-21", feed_with(&now, 2, 3, 2, full, t + 1, base, 0x1p-21, 1), 6);
+    refused("a price beyond -2^30", feed_with(&now, 2, 3, 2, full, t + 1, base, -0x1.0000000000001p30, 1), 6);
     refused("a volume of minus zero", feed_with(&now, 2, 3, 2, full, t + 1, base + 2, base, -zero), 7);
     refused("low above high", feed_with(&now, 2, 3, 2, full, t + 1, base, base + 2, 1), 8);
     if (k) refused("an earlier time", feed_with(&now, 2, 3, 2, full, t - 1, base + 2, base, 1), 9);
@@ -113,6 +135,13 @@ int main(void) {
   double vol = now.fp[0][16]; now.fp[0][16] = nan; memcpy(&old, &now, sizeof now);
   refused("a fractal's third bar with a volume that is no number", feed_with(&now, 2, 3, 2, full, t + 1, 30, 20, 1), 4);
   now.fp[0][16] = vol;
+  memcpy(&old, &now, sizeof now);
+  for (int i = 0; i < 4; i++) {
+    held("a raw bar's price", &now.rp[0][i], i < 2, t);
+    held("an unfinished bar's price", &now.up[0][i], i < 2, t);
+    held("a stroke's bar's price", &now.sp[0][i], i < 2, t);
+    for (int k = 0; k < 3; k++) held("a fractal's bar's price", &now.fp[0][6 * k + i], i < 2, t);
+  }
   now.numbers[0][7] = 65; memcpy(&old, &now, sizeof now);
   refused("65 strokes", feed_with(&now, 2, 3, 2, full, t + 1, 30, 20, 1), 4);
   /* a list of bars */

@@ -12,10 +12,10 @@ use lib.ListN.{length, take, drop, getD, set, length-map, drop-of-length-le, Lis
 use lib.Seq.{drop-cons, getD-take, length-take-le}
 use lib.Ieee.{Float, lt}
 use Rattle.bars.specs.declared.gaps.Gap.{Gap}
-use Rattle.bars.specs.declared.gaps.Gap.the-variants.{NoGap, Up, Down}
+use Rattle.bars.specs.declared.gaps.Gap.the-variants.{NoGap}
 use Rattle.bars.specs.declared.gaps.GapAnswer.the-variants.{Pair, Missing}
 use Rattle.bars.specs.Lists.{some-of, copied}
-use Rattle.bars.specs.Gaps.{rowHigh, rowLow, ratioOf, coversUp, coversDown, gapIf, gapOf, gapsOf, pairIf, gapAt, unlessShort, gapAmong, GapColumns, gapsListed, written, listIf, listGaps}
+use Rattle.bars.specs.Gaps.{rowHigh, rowLow, coversUp, coversDown, upGap, downGap, gapIf, gapOf, gapsOf, pairIf, gapAt, unlessShort, gapAmong, GapColumns, gapsListed, written, listIf, listGaps}
 use Rattle.bars.proofs.Moves.{copy-turn}
 
 -- ---- a scan of the first n from a place on
@@ -41,15 +41,15 @@ module _ {A : Type 0} (p : A → Bool) (l : List A) (n j : ℕ) where
 
 -- ---- one pair
 
-module _ (a b : List Float) (right : List (List Float)) (r : Float) (c : Bool) where
-  pub gap-up : lt (rowHigh a) (rowLow b) ≡ true → r ≡ ratioOf (rowLow b) (rowHigh a) → c ≡ some-of (coversUp a) right → Up (rowHigh a) (rowLow b) r c ≡ gapOf a b right
+module _ (a b : List Float) (right : List (List Float)) (g : Gap) (c : Bool) where
+  pub gap-up : lt (rowHigh a) (rowLow b) ≡ true → c ≡ some-of (coversUp a) right → g ≡ upGap (rowHigh a) (rowLow b) c → g ≡ gapOf a b right
   unfolding gapOf gapIf
-  gap-up p q s = rw (p, q, s)
+  gap-up p q s = s ∙ rw (p, q)
 
-  pub gap-down : lt (rowHigh a) (rowLow b) ≡ false → lt (rowHigh b) (rowLow a) ≡ true → r ≡ ratioOf (rowLow a) (rowHigh b) → c ≡ some-of (coversDown a) right
-      → Down (rowHigh b) (rowLow a) r c ≡ gapOf a b right
+  pub gap-down : lt (rowHigh a) (rowLow b) ≡ false → lt (rowHigh b) (rowLow a) ≡ true → c ≡ some-of (coversDown a) right → g ≡ downGap (rowHigh b) (rowLow a) c
+      → g ≡ gapOf a b right
   unfolding gapOf gapIf
-  gap-down p q s t = rw (p, q, s, t)
+  gap-down p q s t = t ∙ rw (p, q, s)
 
 pub gap-none : (a b : List Float) (right : List (List Float)) → lt (rowHigh a) (rowLow b) ≡ false → lt (rowHigh b) (rowLow a) ≡ false → NoGap ≡ gapOf a b right
 unfolding gapOf gapIf

@@ -1,5 +1,6 @@
 pub mod Times
 pub mod MinusZero
+pub mod Prices
 pub mod Asked
 pub mod Including
 pub mod MergedLists

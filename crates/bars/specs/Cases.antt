@@ -1,22 +1,30 @@
--- Marked instances 1, 2, 3, 4 and 12 of document 01, and bounds of the questions, computed.
+-- Marked instances 1, 2, 3, 4 and 12 of document 01, gaps at and below zero, and bounds of the questions, computed.
 use Prim.Native.Nat.{ℕ, suc, zero, _+_}
 use mathlib.Core.Path.{_≡_, refl}
 use mathlib.Core.Bool.{Bool, true, false}
 use mathlib.Core.List.{List, [], _∷_, _++_, map}
 use mathlib.Core.Option.{none, some}
 use lib.IntN.{ℤ, pos, negsuc}
-use lib.Ieee.{Float, nan, inf, fin, binary64, ofInt}
+use lib.Ieee.{Float, nan, inf, fin, binary64, neg, ofInt}
 use Rattle.bars.specs.declared.Bar.{Bar}
 use Rattle.bars.specs.declared.gaps.Gap.{Gap}
-use Rattle.bars.specs.declared.gaps.Gap.the-variants.{NoGap, Up}
+use Rattle.bars.specs.declared.gaps.Gap.the-variants.{NoGap, Up, Down, UpNoRatio, DownNoRatio}
 use Rattle.bars.specs.Bars.{Merged, own, rowOf}
 use Rattle.bars.specs.Questions.{firstFailed}
 use Rattle.bars.specs.Merging.{removeInclude, mergeAll}
-use Rattle.bars.specs.Gaps.{gapsOf}
+use Rattle.bars.specs.Gaps.{gapsOf, gapNumber, gapValues, gapCovered}
 
 abbrev num : ℕ → Float
 unfolding ofInt
 num n = ofInt binary64 (pos n)
+
+abbrev minus : ℕ → Float
+unfolding ofInt neg
+minus n = neg (num n)
+
+-- 2^-20, the smallest price above zero
+abbrev least : Float
+least = fin false 1 (negsuc 19)
 
 -- a bar of this time, high and low
 bar : ℕ → Float → Float → Bar
@@ -94,6 +102,58 @@ twelve-covered : gaps (fin false 19 (negsuc 0)) ≡ Up (num 10) (num 11) (fin fa
 unfolding gaps ofInt
 twelve-covered = refl
 
+-- Two bars, the first one's high and low and then the second one's, and what the pair is. An up gap divides by the first high, a down gap by the second.
+pairOf : Float → Float → Float → Float → List Gap
+unfolding bar rowOf gapsOf ofInt
+pairOf h1 l1 h2 l2 = gapsOf (rowOf (bar 1 h1 l1) ∷ rowOf (bar 2 h2 l2) ∷ [])
+
+-- up, from an edge above zero, at zero and below it: 1 / 2^-20 - 1 is 1048575
+up-above : pairOf least (minus 2) (num 2) (num 1) ≡ Up least (num 1) (num 1048575) false ∷ []
+unfolding pairOf ofInt neg
+up-above = refl
+
+up-at : pairOf (num 0) (minus 2) (num 2) (num 1) ≡ UpNoRatio (num 0) (num 1) false ∷ []
+unfolding pairOf ofInt neg
+up-at = refl
+
+up-below : pairOf (neg least) (minus 2) (num 2) (num 1) ≡ UpNoRatio (neg least) (num 1) false ∷ []
+unfolding pairOf ofInt neg
+up-below = refl
+
+-- down, to an edge above zero, at zero and below it; the higher edge may be zero too
+down-above : pairOf (num 2) (num 1) least (minus 2) ≡ Down least (num 1) (num 1048575) false ∷ []
+unfolding pairOf ofInt neg
+down-above = refl
+
+down-at : pairOf (num 2) (num 1) (num 0) (minus 2) ≡ DownNoRatio (num 0) (num 1) false ∷ []
+unfolding pairOf ofInt neg
+down-at = refl
+
+down-below : pairOf (num 2) (num 0) (neg least) (minus 2) ≡ DownNoRatio (neg least) (num 0) false ∷ []
+unfolding pairOf ofInt neg
+down-below = refl
+
+-- a gap without a ratio can be covered: -3/-4, -1/-2, then a low below -3; and what is listed of it
+below-covered : gapsOf (rowOf (bar 1 (minus 3) (minus 4)) ∷ rowOf (bar 2 (minus 1) (minus 2)) ∷ rowOf (bar 3 (minus 1) (minus 5)) ∷ []) ≡ UpNoRatio (minus 3) (minus 2) true ∷ NoGap ∷ []
+unfolding bar rowOf gapsOf ofInt neg
+below-covered = refl
+
+listed-3 : gapNumber (UpNoRatio (minus 3) (minus 2) true) ≡ 3
+unfolding gapNumber
+listed-3 = refl
+
+listed-4 : gapNumber (DownNoRatio (minus 3) (minus 2) true) ≡ 4
+unfolding gapNumber
+listed-4 = refl
+
+listed-values : gapValues (UpNoRatio (minus 3) (minus 2) true) ≡ minus 3 ∷ minus 2 ∷ num 0 ∷ []
+unfolding gapValues ofInt neg
+listed-values = refl
+
+listed-covered : gapCovered (DownNoRatio (minus 3) (minus 2) true) ≡ true
+unfolding gapCovered
+listed-covered = refl
+
 -- ---- questions
 
 -- a bar with this high, all else in range
@@ -117,6 +177,36 @@ price-nan = refl
 price-infinite : firstFailed none (high (inf false)) ≡ 6
 unfolding high firstFailed
 price-infinite = refl
+
+-- a bar of one price: the first question that it fails
+flat : Float → ℕ
+unfolding bar firstFailed
+flat x = firstFailed none (bar 1 x x)
+
+-- in: plain zero, 2^-20, -2^-20, 2^30 and -2^30
+prices-in : map flat (num 0 ∷ least ∷ neg least ∷ num 1073741824 ∷ minus 1073741824 ∷ []) ≡ 0 ∷ 0 ∷ 0 ∷ 0 ∷ 0 ∷ []
+unfolding flat ofInt neg
+prices-in = refl
+
+-- out: minus zero, 2^-21, -2^-21, the last floats before 2^-20 and before -2^-20 towards zero, the smallest float
+prices-near-zero : map flat (minus 0 ∷ fin false 1 (negsuc 20) ∷ fin true 1 (negsuc 20) ∷ fin false 9007199254740991 (negsuc 72) ∷ fin true 9007199254740991 (negsuc 72) ∷ fin false 1 (negsuc 1073) ∷ [])
+    ≡ 6 ∷ 6 ∷ 6 ∷ 6 ∷ 6 ∷ 6 ∷ []
+unfolding flat ofInt neg
+prices-near-zero = refl
+
+-- out: the next floats beyond 2^30 and -2^30, both infinities
+prices-beyond : map flat (fin false 4503599627370497 (negsuc 21) ∷ fin true 4503599627370497 (negsuc 21) ∷ inf false ∷ inf true ∷ []) ≡ 6 ∷ 6 ∷ 6 ∷ 6 ∷ []
+unfolding flat
+prices-beyond = refl
+
+-- each of the four is asked: minus zero as open, as close, as high and as low alone
+asked : Float → Float → Float → Float → ℕ
+unfolding firstFailed ofInt
+asked o c h l = firstFailed none (record { time = pos 1; id = pos 1; «open» = o; close = c; high = h; low = l; vol = num 1; amount = num 1 })
+
+each-asked : asked (minus 0) (num 0) (num 0) (num 0) ∷ asked (num 0) (minus 0) (num 0) (num 0) ∷ asked (num 0) (num 0) (minus 0) (num 0) ∷ asked (num 0) (num 0) (num 0) (minus 0) ∷ [] ≡ 6 ∷ 6 ∷ 6 ∷ 6 ∷ []
+unfolding asked ofInt neg
+each-asked = refl
 
 -- vol zero in, minus zero out
 volume : Float → Bar

@@ -1,14 +1,16 @@
--- Document 01's gaps: check_gap_info over the kept raw bars, as rows of prices: open, close, high, low, vol, amount. Definitions only.
+-- Document 01's gaps, with document 02's third request: check_gap_info over the kept raw bars, as rows of prices: open, close, high, low, vol, amount.
+-- Definitions only.
 use Prim.Native.Nat.{ℕ, _+_, _-_}
 use mathlib.Core.Bool.{Bool, true, false}
 use mathlib.Core.List.{List, [], _∷_, map}
 use lib.ListN.{length, take, getD}
 use lib.Dec.{ltb, leb}
 use lib.IntN.{pos}
-use lib.Ieee.{Float, nan, fin, binary64, lt, sub, div}
+use lib.Ieee.{Float, nan, fin, binary64, lt, le, sub, div}
 use Rattle.arith.specs.Rounding.{roundTo}
+use Rattle.arith.specs.Sums.{zeroF}
 use Rattle.bars.specs.declared.gaps.Gap.{Gap}
-use Rattle.bars.specs.declared.gaps.Gap.the-variants.{NoGap, Up, Down}
+use Rattle.bars.specs.declared.gaps.Gap.the-variants.{NoGap, Up, Down, UpNoRatio, DownNoRatio}
 use Rattle.bars.specs.declared.gaps.GapAnswer.{GapAnswer}
 use Rattle.bars.specs.declared.gaps.GapAnswer.the-variants.{Pair, Missing}
 use Rattle.bars.specs.Lists.{some-of, copied}
@@ -35,11 +37,35 @@ unfoldable pub coversDown : List Float → List Float → Bool
 unfolding lt rowHigh rowLow
 coversDown a x = lt (rowLow a) (rowHigh x)
 
+-- the ratio divides by the lower edge, and where that is zero or less there is none
+unfoldable pub hasNoRatio : Float → Bool
+unfolding le
+hasNoRatio l = le l zeroF
+
+-- a gap by its lower edge l, its higher edge h and whether it is covered
+unfoldable pub upIf : Bool → Float → Float → Bool → Gap
+unfolding ratioOf
+upIf true l h c = UpNoRatio l h c
+upIf false l h c = Up l h (ratioOf h l) c
+
+unfoldable pub upGap : Float → Float → Bool → Gap
+unfolding upIf hasNoRatio
+upGap l h c = upIf (hasNoRatio l) l h c
+
+unfoldable pub downIf : Bool → Float → Float → Bool → Gap
+unfolding ratioOf
+downIf true l h c = DownNoRatio l h c
+downIf false l h c = Down l h (ratioOf h l) c
+
+unfoldable pub downGap : Float → Float → Bool → Gap
+unfolding downIf hasNoRatio
+downGap l h c = downIf (hasNoRatio l) l h c
+
 -- the pair a, b: by whether a's high is below b's low, and whether a's low is above b's high. `right` are the bars from b on.
 unfoldable pub gapIf : Bool → Bool → List Float → List Float → List (List Float) → Gap
-unfolding rowHigh rowLow ratioOf some-of coversUp coversDown
-gapIf true d a b right = Up (rowHigh a) (rowLow b) (ratioOf (rowLow b) (rowHigh a)) (some-of (coversUp a) right)
-gapIf false true a b right = Down (rowHigh b) (rowLow a) (ratioOf (rowLow a) (rowHigh b)) (some-of (coversDown a) right)
+unfolding rowHigh rowLow upGap downGap some-of coversUp coversDown
+gapIf true d a b right = upGap (rowHigh a) (rowLow b) (some-of (coversUp a) right)
+gapIf false true a b right = downGap (rowHigh b) (rowLow a) (some-of (coversDown a) right)
 gapIf false false a b right = NoGap
 
 unfoldable pub gapOf : List Float → List Float → List (List Float) → Gap
@@ -57,22 +83,28 @@ gapsOf (a ∷ b ∷ l) = gapOf a b (b ∷ l) ∷ gapsOf (b ∷ l)
 
 -- ---- an answer's number and values
 
--- 0: none, 1: up, 2: down
+-- 0: none, 1: up, 2: down, 3: up without a ratio, 4: down without a ratio
 unfoldable pub gapNumber : Gap → ℕ
 gapNumber NoGap = 0
 gapNumber (Up l h r c) = 1
 gapNumber (Down l h r c) = 2
+gapNumber (UpNoRatio l h c) = 3
+gapNumber (DownNoRatio l h c) = 4
 
--- the lower edge, the higher edge and the ratio; zeros where there is no gap
+-- the lower edge, the higher edge and the ratio; zero in the ratio's place where there is none, and zeros where there is no gap
 unfoldable pub gapValues : Gap → List Float
-gapValues NoGap = fin false 0 (pos 0) ∷ fin false 0 (pos 0) ∷ fin false 0 (pos 0) ∷ []
+gapValues NoGap = zeroF ∷ zeroF ∷ zeroF ∷ []
 gapValues (Up l h r c) = l ∷ h ∷ r ∷ []
 gapValues (Down l h r c) = l ∷ h ∷ r ∷ []
+gapValues (UpNoRatio l h c) = l ∷ h ∷ zeroF ∷ []
+gapValues (DownNoRatio l h c) = l ∷ h ∷ zeroF ∷ []
 
 unfoldable pub gapCovered : Gap → Bool
 gapCovered NoGap = false
 gapCovered (Up l h r c) = c
 gapCovered (Down l h r c) = c
+gapCovered (UpNoRatio l h c) = c
+gapCovered (DownNoRatio l h c) = c
 
 -- ---- the pair at a place: bars i and i + 1 of the first n
 

@@ -1,11 +1,12 @@
--- Questions 5 to 9 of document 01, as tests of a bar: true is "yes". Definitions only.
+-- Questions 5 to 9 of document 01, question 6 as document 02's third request has it, as tests of a bar: true is "yes". Definitions only.
 use Prim.Native.Nat.{ℕ}
-use mathlib.Core.Bool.{Bool, true, false, not, _&&_}
+use mathlib.Core.Bool.{Bool, true, false, not, _&&_, _||_}
 use mathlib.Core.Option.{Option, none, some}
 use lib.IntN.{ℤ, pos, negsuc}
 use lib.Signed.{leZ}
-use lib.Ieee.{Float, nan, inf, fin, le}
+use lib.Ieee.{Float, nan, inf, fin, le, eq}
 use Rattle.bars.specs.declared.Bar.{Bar}
+use Rattle.arith.specs.Order.{absOf}
 use Rattle.arith.specs.Sums.{zeroF}
 
 -- ---- the bounds: -2^40 and 2^40, 2^-20 and 2^30, 0 and 2^50
@@ -32,19 +33,28 @@ unfoldable pub question5 : Bar → Bool
 unfolding firstTime lastTime
 question5 b = leZ firstTime (b .time) && leZ (b .time) lastTime
 
-unfoldable pub isPrice : Float → Bool
-unfolding le leastPrice mostPrice
-isPrice x = le leastPrice x && le x mostPrice
-
--- All four prices from 2^-20 to 2^30?
-unfoldable pub question6 : Bar → Bool
-unfolding isPrice
-question6 b = (isPrice (b .«open») && isPrice (b .close)) && (isPrice (b .high) && isPrice (b .low))
-
 unfoldable pub hasMinus : Float → Bool
 hasMinus nan = false
 hasMinus (inf s) = false
 hasMinus (fin s m e) = s
+
+-- zero without a minus sign
+unfoldable pub isPlainZero : Float → Bool
+unfolding eq hasMinus
+isPlainZero x = eq x zeroF && not (hasMinus x)
+
+unfoldable pub inPriceRange : Float → Bool
+unfolding le leastPrice mostPrice
+inPriceRange x = le leastPrice x && le x mostPrice
+
+unfoldable pub isPrice : Float → Bool
+unfolding isPlainZero inPriceRange absOf
+isPrice x = isPlainZero x || inPriceRange (absOf x)
+
+-- Is each of the four prices zero or of magnitude 2^-20 to 2^30, minus zero barred?
+unfoldable pub question6 : Bar → Bool
+unfolding isPrice
+question6 b = (isPrice (b .«open») && isPrice (b .close)) && (isPrice (b .high) && isPrice (b .low))
 
 -- from zero up. What is not below zero and has a minus sign is minus zero, and it is barred.
 unfoldable pub fromZero : Float → Bool

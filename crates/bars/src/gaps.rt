@@ -5,14 +5,16 @@ ghost use Prim.Native.Nat.{_+_, _-_, _<_, _≤_};
 ghost use mathlib.Core.List.{[]};
 ghost use lib.ListN.{length, take, drop, getD};
 ghost use Rattle.bars.specs.Lists.{some-of};
-ghost use Rattle.bars.specs.Gaps.{ratioOf, coversUp, coversDown, gapOf, gapNumber, gapValues, gapCovered, gapAmong, gapsOf, gapColumns, written, gapsListed, listGaps};
+ghost use Rattle.bars.specs.Gaps.{ratioOf, coversUp, coversDown, hasNoRatio, upGap, downGap, gapOf, gapNumber, gapValues, gapCovered, gapAmong, gapsOf, gapColumns, written, gapsListed, listGaps};
 
 // A neighbouring pair: no gap, or an up or a down gap with its lower edge, its higher edge, the ratio, and whether a bar from
-// the pair's second on covered it.
+// the pair's second on covered it. The ratio divides by the lower edge: where that is zero or less there is none.
 pub enum Gap {
     NoGap,
     Up(f64, f64, f64, bool),
     Down(f64, f64, f64, bool),
+    UpNoRatio(f64, f64, bool),
+    DownNoRatio(f64, f64, bool),
 }
 
 // The pair that was asked for, or that there is no such pair.
@@ -26,6 +28,32 @@ fn ratio(high: f64, low: f64) -> f64
     ensures { λ r. ⌜ r ≡ ratioOf high low ⌝ }
 {
     arith::round_to_4_digit(high / low - 1.0)
+}
+
+fn has_no_ratio(low: f64) -> bool
+    ensures { λ r. ⌜ r ≡ hasNoRatio low ⌝ }
+{
+    low <= 0.0
+}
+
+fn up_gap(low: f64, high: f64, covered: bool) -> Gap
+    ensures { λ r. ⌜ r ≡ upGap low high covered ⌝ }
+{
+    if has_no_ratio(low) {
+        return Gap::UpNoRatio(low, high, covered);
+    }
+    let r = ratio(high, low);
+    Gap::Up(low, high, r, covered)
+}
+
+fn down_gap(low: f64, high: f64, covered: bool) -> Gap
+    ensures { λ r. ⌜ r ≡ downGap low high covered ⌝ }
+{
+    if has_no_ratio(low) {
+        return Gap::DownNoRatio(low, high, covered);
+    }
+    let r = ratio(high, low);
+    Gap::Down(low, high, r, covered)
 }
 
 // Whether a low among bars `from` to n is below the high of bar i.
@@ -77,13 +105,11 @@ fn gap_of_pair(prices: &[[f64; 6]], n: usize, i: usize, j: usize) -> Gap
     let b_low = b[3];
     if a_high < b_low {
         let c = covered_up(prices, n, i, j);
-        let r = ratio(b_low, a_high);
-        return Gap::Up(a_high, b_low, r, c);
+        return up_gap(a_high, b_low, c);
     }
     if b_high < a_low {
         let c = covered_down(prices, n, i, j);
-        let r = ratio(a_low, b_high);
-        return Gap::Down(b_high, a_low, r, c);
+        return down_gap(b_high, a_low, c);
     }
     Gap::NoGap
 }
@@ -112,6 +138,8 @@ fn gap_number(g: Gap) -> u64
         Gap::NoGap => 0,
         Gap::Up(_, _, _, _) => 1,
         Gap::Down(_, _, _, _) => 2,
+        Gap::UpNoRatio(_, _, _) => 3,
+        Gap::DownNoRatio(_, _, _) => 4,
     }
 }
 
@@ -122,6 +150,8 @@ fn gap_values(g: Gap) -> [f64; 3]
         Gap::NoGap => [0.0, 0.0, 0.0],
         Gap::Up(low, high, ratio, _) => [low, high, ratio],
         Gap::Down(low, high, ratio, _) => [low, high, ratio],
+        Gap::UpNoRatio(low, high, _) => [low, high, 0.0],
+        Gap::DownNoRatio(low, high, _) => [low, high, 0.0],
     }
 }
 
@@ -132,6 +162,8 @@ fn gap_covered(g: Gap) -> bool
         Gap::NoGap => false,
         Gap::Up(_, _, _, covered) => covered,
         Gap::Down(_, _, _, covered) => covered,
+        Gap::UpNoRatio(_, _, covered) => covered,
+        Gap::DownNoRatio(_, _, covered) => covered,
     }
 }
 

@@ -1,9 +1,9 @@
-// Questions 5 to 9 of document 01, asked of a bar that is fed. Each is answered for every bar there is, with NaN,
+// Questions 5 to 9 of document 01, question 6 with prices at and below zero, asked of a bar that is fed. Each is answered for every bar there is, with NaN,
 // infinities and minus zero among its floats.
 ghost use mathlib.Core.Path.{_≡_};
 ghost use mathlib.Core.Bool.{_&&_};
 ghost use mathlib.Core.Option.{none};
-ghost use Rattle.bars.specs.Questions.{question5, question6, question7, question8, isPrice, fromZero, isVolume, firstFailed, firstFailedAfter};
+ghost use Rattle.bars.specs.Questions.{question5, question6, question7, question8, isPlainZero, inPriceRange, isPrice, fromZero, isVolume, firstFailed, firstFailedAfter};
 use crate::Bar;
 
 // Two tests as flags, without a branch.
@@ -24,14 +24,45 @@ pub fn time_in_range(b: Bar) -> bool
     false
 }
 
-// A price from 2^-20 to 2^30.
-pub fn is_price(x: f64) -> bool
-    ensures { λ r. ⌜ r ≡ isPrice x ⌝ }
+// Zero or more, and no minus zero. The sign is the highest of a float's 64 bits, so the bits of a float without a minus
+// sign, read as a number, are below 2^63.
+pub fn from_zero(x: f64) -> bool
+    ensures { λ r. ⌜ r ≡ fromZero x ⌝ }
+{
+    if 0.0 <= x {
+        return f64::to_bits(x) < 9223372036854775808;
+    }
+    false
+}
+
+// Zero, and no minus zero.
+fn is_plain_zero(x: f64) -> bool
+    ensures { λ r. ⌜ r ≡ isPlainZero x ⌝ }
+{
+    both(x == 0.0, from_zero(x))
+}
+
+// From 2^-20 to 2^30.
+fn in_price_range(x: f64) -> bool
+    ensures { λ r. ⌜ r ≡ inPriceRange x ⌝ }
 {
     both(0.00000095367431640625 <= x, x <= 1073741824.0)
 }
 
-// Question 6: all four prices from 2^-20 to 2^30?
+// A price: plain zero, or of size 2^-20 to 2^30. Most prices are above zero, so this is asked first.
+pub fn is_price(x: f64) -> bool
+    ensures { λ r. ⌜ r ≡ isPrice x ⌝ }
+{
+    if in_price_range(x) {
+        return true;
+    }
+    if is_plain_zero(x) {
+        return true;
+    }
+    in_price_range(arith::abs(x))
+}
+
+// Question 6: is each of the four prices zero or of size 2^-20 to 2^30, minus zero barred?
 pub fn prices_in_range(b: Bar) -> bool
     ensures { λ r. ⌜ r ≡ question6 b ⌝ }
 {
@@ -45,17 +76,6 @@ pub fn prices_in_range(b: Bar) -> bool
         return false;
     }
     is_price(b.low)
-}
-
-// Zero or more, and no minus zero. The sign is the highest of a float's 64 bits, so the bits of a float without a minus
-// sign, read as a number, are below 2^63.
-pub fn from_zero(x: f64) -> bool
-    ensures { λ r. ⌜ r ≡ fromZero x ⌝ }
-{
-    if 0.0 <= x {
-        return f64::to_bits(x) < 9223372036854775808;
-    }
-    false
 }
 
 // A volume or an amount from 0 to 2^50.

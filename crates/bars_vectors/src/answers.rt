@@ -59,7 +59,17 @@ fn ask_remove_include(out: &mut Buffer, o: Buffered, line: &[u8], at: usize) -> 
     remove_include(out, o, k1, k2, k3)
 }
 
-fn put_edges(
+fn put_edges(out: &mut Buffer, o: Buffered, low: f64, high: f64) -> Buffered {
+    let o = spaced_float(out, o, low);
+    spaced_float(out, o, high)
+}
+
+fn put_covered(out: &mut Buffer, o: Buffered, covered: bool) -> Buffered {
+    let o = space(out, o);
+    flag(out, o, covered)
+}
+
+fn put_with_ratio(
     out: &mut Buffer,
     o: Buffered,
     low: f64,
@@ -67,11 +77,15 @@ fn put_edges(
     ratio: f64,
     covered: bool,
 ) -> Buffered {
-    let o = spaced_float(out, o, low);
-    let o = spaced_float(out, o, high);
+    let o = put_edges(out, o, low, high);
     let o = spaced_float(out, o, ratio);
-    let o = space(out, o);
-    flag(out, o, covered)
+    put_covered(out, o, covered)
+}
+
+fn put_no_ratio(out: &mut Buffer, o: Buffered, low: f64, high: f64, covered: bool) -> Buffered {
+    let o = put_edges(out, o, low, high);
+    let o = put(out, o, b" none");
+    put_covered(out, o, covered)
 }
 
 fn put_gap(out: &mut Buffer, o: Buffered, g: Gap) -> Buffered {
@@ -79,11 +93,19 @@ fn put_gap(out: &mut Buffer, o: Buffered, g: Gap) -> Buffered {
         Gap::NoGap => put(out, o, b"none"),
         Gap::Up(low, high, ratio, covered) => {
             let o = put(out, o, b"up");
-            put_edges(out, o, low, high, ratio, covered)
+            put_with_ratio(out, o, low, high, ratio, covered)
         }
         Gap::Down(low, high, ratio, covered) => {
             let o = put(out, o, b"down");
-            put_edges(out, o, low, high, ratio, covered)
+            put_with_ratio(out, o, low, high, ratio, covered)
+        }
+        Gap::UpNoRatio(low, high, covered) => {
+            let o = put(out, o, b"up");
+            put_no_ratio(out, o, low, high, covered)
+        }
+        Gap::DownNoRatio(low, high, covered) => {
+            let o = put(out, o, b"down");
+            put_no_ratio(out, o, low, high, covered)
         }
     }
 }

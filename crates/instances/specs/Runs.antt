@@ -2879,3 +2879,652 @@ run-18-refused : refused (settings 4 5 64 16 24) run-18
     ≡ (19, 12) ∷ (20, 12) ∷ (21, 12) ∷ (22, 12) ∷ (23, 12) ∷ (24, 12) ∷ (25, 12) ∷ (37, 12) ∷ (38, 12) ∷ (39, 12) ∷ (45, 11) ∷ (46, 11) ∷ (47, 11) ∷ (48, 11) ∷ (49, 11) ∷ (50, 11) ∷ (51, 11) ∷ (52, 11) ∷ (56, 11) ∷ (58, 11) ∷ (59, 11) ∷ []
 unfolding refused run-18 settings bar up dn
 run-18-refused = refl
+
+unfoldable run-19 : List Bar
+unfolding bar up dn neg
+run-19 =
+    bar (pos 0) (pos 2147483607) (neg (up 31 0)) (neg (up 31 0)) (neg (up 29 0)) (neg (up 31 0)) (up 1 50) (up 13839 0)
+    ∷ bar (pos 1) (pos 2147483608) (neg (up 1 5)) (neg (up 1 5)) (neg (up 1 5)) (neg (up 17 1)) (up 7719 1) (up 0 0)
+    ∷ bar (pos 2) (pos 2147483609) (neg (up 17 1)) (neg (up 17 1)) (neg (up 1 5)) (neg (up 17 1)) (dn 2787991090060329 34) (up 1063 2)
+    ∷ bar (pos 3) (pos 2147483610) (neg (up 1 5)) (neg (up 15 1)) (neg (up 15 1)) (neg (up 1 5)) (up 0 0) (up 963 2)
+    ∷ bar (pos 4) (pos 2147483611) (neg (up 13 1)) (neg (up 15 1)) (neg (up 13 1)) (neg (up 15 1)) (up 3085 1) (up 9203 1)
+    ∷ bar (pos 5) (pos 2147483612) (neg (up 29 0)) (neg (up 29 0)) (neg (up 29 0)) (neg (up 29 0)) (dn 6566585119581143 35) (up 1849 0)
+    ∷ bar (pos 6) (pos 2147483613) (neg (up 15 1)) (neg (up 15 1)) (neg (up 29 0)) (neg (up 15 1)) (up 6919 0) (up 941 4)
+    ∷ bar (pos 7) (pos 2147483614) (neg (up 31 0)) (neg (up 31 0)) (neg (up 7 2)) (neg (up 31 0)) (dn 2179788448126481 51) (up 18079 0)
+    ∷ bar (pos 8) (pos 2147483615) (neg (up 29 0)) (neg (up 31 0)) (neg (up 27 0)) (neg (up 15 1)) (up 3341 0) (dn 4265747774491853 35)
+    ∷ bar (pos 9) (pos 2147483616) (neg (up 15 1)) (neg (up 15 1)) (neg (up 7 2)) (neg (up 15 1)) (up 14405 0) (up 1237 4)
+    ∷ bar (pos 10) (pos 2147483617) (neg (up 29 0)) (neg (up 1 5)) (neg (up 29 0)) (neg (up 1 5)) (up 11113 0) (dn 3497590468420567 40)
+    ∷ bar (pos 11) (pos 2147483618) (neg (up 15 1)) (neg (up 7 2)) (neg (up 7 2)) (neg (up 15 1)) (dn 6041791655617495 36) (dn 2352517827568599 35)
+    ∷ bar (pos 12) (pos 2147483619) (neg (up 31 0)) (neg (up 33 0)) (neg (up 31 0)) (neg (up 33 0)) (up 2187 0) (up 10837 0)
+    ∷ bar (pos 13) (pos 2147483620) (neg (up 31 0)) (neg (up 15 1)) (neg (up 15 1)) (neg (up 31 0)) (up 0 0) (dn 8426688726234563 36)
+    ∷ bar (pos 13) (pos 2147483621) (neg (up 15 1)) (neg (up 15 1)) (neg (up 15 1)) (neg (up 15 1)) (dn 5749278956553503 35) (up 6125 1)
+    ∷ bar (pos 14) (pos 2147483622) (neg (up 29 0)) (neg (up 7 2)) (neg (up 7 2)) (neg (up 29 0)) (dn 5458236854291661 35) (up 1 50)
+    ∷ bar (pos 15) (pos 2147483623) (neg (up 13 1)) (neg (up 15 1)) (neg (up 13 1)) (neg (up 15 1)) (up 6285 0) (up 0 0)
+    ∷ bar (pos 16) (pos 2147483624) (neg (up 7 2)) (neg (up 7 2)) (neg (up 7 2)) (neg (up 29 0)) (up 5577 1) (up 8887 0)
+    ∷ bar (pos 17) (pos 2147483625) (neg (up 25 0)) (neg (up 25 0)) (neg (up 25 0)) (neg (up 27 0)) (up 0 0) (dn 1186333360872489 33)
+    ∷ bar (pos 18) (pos 2147483626) (neg (up 25 0)) (neg (up 27 0)) (neg (up 25 0)) (neg (up 27 0)) (up 3495 0) (up 7905 0)
+    ∷ bar (pos 18) (pos 2147483627) (neg (up 23 0)) (neg (up 23 0)) (neg (up 23 0)) (neg (up 13 1)) (dn 889480167859159 35) (dn 2602564638788813 34)
+    ∷ bar (pos 19) (pos 2147483628) (neg (up 25 0)) (neg (up 25 0)) (neg (up 11 1)) (neg (up 25 0)) (up 17727 0) (dn 2985580888714117 38)
+    ∷ bar (pos 20) (pos 2147483629) (neg (up 25 0)) (neg (up 25 0)) (neg (up 25 0)) (neg (up 25 0)) (dn 5328251215266447 36) (up 0 0)
+    ∷ bar (pos 21) (pos 2147483630) (neg (up 13 1)) (neg (up 13 1)) (neg (up 3 3)) (neg (up 13 1)) (up 10411 0) (up 771 4)
+    ∷ bar (pos 22) (pos 2147483631) (neg (up 25 0)) (neg (up 11 1)) (neg (up 11 1)) (neg (up 25 0)) (up 1 50) (up 17511 0)
+    ∷ bar (pos 23) (pos 2147483632) (neg (up 27 0)) (neg (up 27 0)) (neg (up 23 0)) (neg (up 27 0)) (up 4841 2) (up 1399 0)
+    ∷ bar (pos 24) (pos 2147483633) (neg (up 3 3)) (neg (up 11 1)) (neg (up 11 1)) (neg (up 13 1)) (up 11291 0) (up 4479 0)
+    ∷ bar (pos 25) (pos 2147483634) (neg (up 25 0)) (neg (up 25 0)) (neg (up 25 0)) (neg (up 25 0)) (up 4311 0) (up 7691 1)
+    ∷ bar (pos 26) (pos 2147483635) (neg (up 25 0)) (neg (up 3 3)) (neg (up 3 3)) (neg (up 25 0)) (up 3163 0) (up 135 7)
+    ∷ bar (pos 27) (pos 2147483636) (neg (up 5 2)) (neg (up 5 2)) (neg (up 5 2)) (neg (up 11 1)) (dn 2071075149012009 34) (up 3925 0)
+    ∷ bar (pos 28) (pos 2147483637) (neg (up 23 0)) (neg (up 25 0)) (neg (up 23 0)) (neg (up 25 0)) (dn 4666791891944079 36) (up 0 0)
+    ∷ bar (pos 29) (pos 2147483638) (neg (up 13 1)) (neg (up 13 1)) (neg (up 13 1)) (neg (up 7 2)) (up 2627 1) (up 2541 2)
+    ∷ bar (pos 30) (pos 2147483639) (neg (up 25 0)) (neg (up 25 0)) (neg (up 25 0)) (neg (up 7 2)) (dn 6527756553641001 35) (dn 7792190802414797 36)
+    ∷ bar (pos 31) (pos 2147483640) (neg (up 27 0)) (neg (up 27 0)) (neg (up 27 0)) (neg (up 15 1)) (dn 2331700292883579 34) (dn 1059375763755581 9)
+    ∷ bar (pos 32) (pos 2147483641) (neg (up 13 1)) (neg (up 13 1)) (neg (up 13 1)) (neg (up 7 2)) (dn 7745790037333115 37) (up 2469 0)
+    ∷ bar (pos 33) (pos 2147483642) (neg (up 7 2)) (neg (up 7 2)) (neg (up 13 1)) (neg (up 7 2)) (dn 3821194607538995 35) (dn 1325612793730171 34)
+    ∷ bar (pos 33) (pos 2147483643) (neg (up 13 1)) (neg (up 13 1)) (neg (up 3 3)) (neg (up 13 1)) (dn 3729400504904581 37) (up 4783 0)
+    ∷ bar (pos 33) (pos 2147483644) (neg (up 25 0)) (neg (up 25 0)) (neg (up 25 0)) (neg (up 25 0)) (up 8437 0) (up 0 0)
+    ∷ bar (pos 34) (pos 2147483645) (neg (up 13 1)) (neg (up 25 0)) (neg (up 25 0)) (neg (up 13 1)) (dn 5806030249221161 36) (up 14363 0)
+    ∷ bar (pos 35) (pos 2147483646) (neg (up 27 0)) (neg (up 27 0)) (neg (up 27 0)) (neg (up 29 0)) (up 9235 1) (up 0 0)
+    ∷ []
+
+run-19-told : told (settings 5 4 64 64 64) run-19
+    ≡ record {
+      events = (8, 1, 3);
+      raw = map pos (18 ∷ 19 ∷ 20 ∷ 21 ∷ 22 ∷ 23 ∷ 24 ∷ 25 ∷ 26 ∷ 27 ∷ 28 ∷ 29 ∷ 30 ∷ 31 ∷ 32 ∷ 33 ∷ 34 ∷ 35 ∷ []);
+      ids = map pos (2147483627 ∷ 2147483628 ∷ 2147483629 ∷ 2147483630 ∷ 2147483631 ∷ 2147483632 ∷ 2147483633 ∷ 2147483634 ∷ 2147483635 ∷ 2147483636 ∷ 2147483637 ∷ 2147483638 ∷ 2147483639 ∷ 2147483640 ∷ 2147483641 ∷ 2147483644 ∷ 2147483645 ∷ 2147483646 ∷ []);
+      ubi =
+          (bar (pos 32) (pos 2147483641) (neg (up 13 1)) (neg (up 13 1)) (neg (up 13 1)) (neg (up 7 2)) (dn 7745790037333115 37) (up 2469 0), map pos (32 ∷ []))
+          ∷ (bar (pos 34) (pos 2147483644) (neg (up 25 0)) (neg (up 25 0)) (neg (up 25 0)) (neg (up 25 0)) (dn 6965602699664425 36) (up 14363 0), map pos (33 ∷ 34 ∷ []))
+          ∷ (bar (pos 35) (pos 2147483646) (neg (up 27 0)) (neg (up 27 0)) (neg (up 27 0)) (neg (up 29 0)) (up 9235 1) (up 0 0), map pos (35 ∷ []))
+          ∷ [];
+      strokes =
+          kept Down (fx (pos 19) G (neg (up 11 1)) (neg (up 25 0)) (neg (up 11 1))) (fx (pos 23) D (neg (up 23 0)) (neg (up 27 0)) (neg (up 27 0)))
+          (fx (pos 19) G (neg (up 11 1)) (neg (up 25 0)) (neg (up 11 1)) ∷ fx (pos 21) D (neg (up 3 3)) (neg (up 13 1)) (neg (up 13 1)) ∷ fx (pos 22) G (neg (up 11 1)) (neg (up 25 0)) (neg (up 11 1)) ∷ fx (pos 23) D (neg (up 23 0)) (neg (up 27 0)) (neg (up 27 0)) ∷ [])
+          (map pos (18 ∷ 19 ∷ 21 ∷ 22 ∷ 23 ∷ 24 ∷ []))
+          ∷ kept Up (fx (pos 23) D (neg (up 23 0)) (neg (up 27 0)) (neg (up 27 0))) (fx (pos 27) G (neg (up 5 2)) (neg (up 11 1)) (neg (up 5 2)))
+          (fx (pos 23) D (neg (up 23 0)) (neg (up 27 0)) (neg (up 27 0)) ∷ fx (pos 27) G (neg (up 5 2)) (neg (up 11 1)) (neg (up 5 2)) ∷ [])
+          (map pos (22 ∷ 23 ∷ 24 ∷ 27 ∷ 28 ∷ []))
+          ∷ kept Down (fx (pos 27) G (neg (up 5 2)) (neg (up 11 1)) (neg (up 5 2))) (fx (pos 31) D (neg (up 27 0)) (neg (up 15 1)) (neg (up 15 1)))
+          (fx (pos 27) G (neg (up 5 2)) (neg (up 11 1)) (neg (up 5 2)) ∷ fx (pos 31) D (neg (up 27 0)) (neg (up 15 1)) (neg (up 15 1)) ∷ [])
+          (map pos (24 ∷ 27 ∷ 28 ∷ 30 ∷ 31 ∷ 32 ∷ []))
+          ∷ kept Up (fx (pos 31) D (neg (up 27 0)) (neg (up 15 1)) (neg (up 15 1))) (fx (pos 34) G (neg (up 25 0)) (neg (up 25 0)) (neg (up 25 0)))
+          (fx (pos 31) D (neg (up 27 0)) (neg (up 15 1)) (neg (up 15 1)) ∷ fx (pos 34) G (neg (up 25 0)) (neg (up 25 0)) (neg (up 25 0)) ∷ [])
+          (map pos (30 ∷ 31 ∷ 32 ∷ 34 ∷ 35 ∷ []))
+          ∷ [];
+      measures =
+          measured (neg (up 11 1)) (neg (up 27 0)) (up 5 0) (dn 4503599627715577 1) (dn 6004799503160661 52) (dn 6005099743135819 52) (dn 4094672781205255 53) (neg (dn 3602879701896397 54)) (neg (dn 6433713753386423 53)) 6
+          (map pos (19 ∷ 20 ∷ 21 ∷ 22 ∷ 23 ∷ []))
+          (fake Down (pos 19) (pos 21) (neg (up 11 1)) (neg (up 13 1)) (up 1 2) ∷ fake Up (pos 21) (pos 22) (neg (up 11 1)) (neg (up 13 1)) (up 1 2) ∷ fake Down (pos 22) (pos 23) (neg (up 11 1)) (neg (up 27 0)) (up 5 0) ∷ [])
+          ∷ measured (neg (up 5 2)) (neg (up 27 0)) (up 7 0) (dn 3381177613245481 34) (dn 5254199565265579 50) (dn 5254124505271789 50) (neg (dn 2335566766754339 52)) (dn 5404319552844595 51) (dn 2573485501354569 53) 5
+          (map pos (23 ∷ 24 ∷ 25 ∷ 26 ∷ 27 ∷ []))
+          (fake Up (pos 23) (pos 27) (neg (up 5 2)) (neg (up 27 0)) (up 7 0) ∷ [])
+          ∷ measured (neg (up 5 2)) (neg (up 15 1)) (up 5 1) (dn 2253469439271895 32) (dn 7 0) (dn 7 0) (dn 1 0) (neg (dn 3152519739159347 50)) (dn 2573485501354569 51) 6
+          (map pos (27 ∷ 28 ∷ 29 ∷ 30 ∷ 31 ∷ []))
+          (fake Down (pos 27) (pos 31) (neg (up 5 2)) (neg (up 15 1)) (up 5 1) ∷ [])
+          ∷ measured (neg (up 25 0)) (neg (up 15 1)) (up 5 0) (dn 5041324722466325 34) (up 1 1) (up 1 1) (neg (dn 6006000463061293 54)) (dn 3152519739159347 51) (neg (dn 1 1)) 5
+          (map pos (31 ∷ 32 ∷ 33 ∷ 34 ∷ []))
+          (fake Up (pos 31) (pos 34) (neg (up 25 0)) (neg (up 15 1)) (up 5 0) ∷ [])
+          ∷ [];
+      fxs =
+          fx (pos 21) D (neg (up 3 3)) (neg (up 13 1)) (neg (up 13 1))
+          ∷ fx (pos 22) G (neg (up 11 1)) (neg (up 25 0)) (neg (up 11 1))
+          ∷ fx (pos 23) D (neg (up 23 0)) (neg (up 27 0)) (neg (up 27 0))
+          ∷ fx (pos 27) G (neg (up 5 2)) (neg (up 11 1)) (neg (up 5 2))
+          ∷ fx (pos 31) D (neg (up 27 0)) (neg (up 15 1)) (neg (up 15 1))
+          ∷ fx (pos 34) G (neg (up 25 0)) (neg (up 25 0)) (neg (up 25 0))
+          ∷ [];
+      finished = 3;
+      extend = false;
+      zones =
+          zone (pos 19) (pos 34) Down Up (neg (up 11 1)) (neg (up 27 0)) (neg (dn 49 0)) (neg (up 5 2)) (neg (up 15 1)) true
+          (stroke Down (neg (up 11 1)) (neg (up 27 0)) (pos 19) (pos 23)
+          ∷ stroke Up (neg (up 5 2)) (neg (up 27 0)) (pos 23) (pos 27)
+          ∷ stroke Down (neg (up 5 2)) (neg (up 15 1)) (pos 27) (pos 31)
+          ∷ stroke Up (neg (up 25 0)) (neg (up 15 1)) (pos 31) (pos 34)
+          ∷ [])
+          ∷ [];
+      finZones =
+          zone (pos 19) (pos 31) Down Down (neg (up 11 1)) (neg (up 27 0)) (neg (dn 49 0)) (neg (up 5 2)) (neg (up 15 1)) true
+          (stroke Down (neg (up 11 1)) (neg (up 27 0)) (pos 19) (pos 23)
+          ∷ stroke Up (neg (up 5 2)) (neg (up 27 0)) (pos 23) (pos 27)
+          ∷ stroke Down (neg (up 5 2)) (neg (up 15 1)) (pos 27) (pos 31)
+          ∷ [])
+          ∷ [];
+      bis =
+          (neither ∷ neither ∷ neither ∷ neither ∷ neither ∷ [])
+          ∷ (neither ∷ neither ∷ neither ∷ neither ∷ [])
+          ∷ (neither ∷ neither ∷ neither ∷ [])
+          ∷ (neither ∷ neither ∷ [])
+          ∷ (neither ∷ [])
+          ∷ [];
+      answers =
+          answers Medium (dn 2743617205944975 34) true
+          ∷ answers Medium (dn 4503599627638121 1) true
+          ∷ answers Strong (up 1125899906872399 0) true
+          ∷ answers Medium (up 1125899906873279 0) true
+          ∷ answers Medium (up 1125899906880753 0) true
+          ∷ answers Medium (dn 3882533612473549 34) false
+          ∷ answers Medium (dn 3882533612473549 34) false
+          ∷ answers Medium (dn 6744328389756191 34) true
+          ∷ answers Medium (dn 6744328389756191 34) true
+          ∷ answers Medium (dn 6688497594479411 35) false
+          ∷ answers Medium (dn 6688497594479411 35) false
+          ∷ [];
+      ubifx =
+          fx (pos 34) G (neg (up 25 0)) (neg (up 25 0)) (neg (up 25 0))
+          ∷ [];
+      unfinished = some (Down, (neg (up 25 0)), (neg (up 29 0)), (pos 34), (pos 35), 3, 18, 1, (pos 34));
+      gaps =
+          Gaps.NoGap
+          ∷ Gaps.NoGap
+          ∷ Gaps.NoGap
+          ∷ Gaps.NoGap
+          ∷ Gaps.NoGap
+          ∷ Gaps.NoGap
+          ∷ Gaps.NoGap
+          ∷ Gaps.NoGap
+          ∷ Gaps.UpNoRatio (neg (up 3 3)) (neg (up 11 1)) true
+          ∷ Gaps.DownNoRatio (neg (up 23 0)) (neg (up 11 1)) false
+          ∷ Gaps.DownNoRatio (neg (up 13 1)) (neg (up 25 0)) false
+          ∷ Gaps.NoGap
+          ∷ Gaps.NoGap
+          ∷ Gaps.NoGap
+          ∷ Gaps.UpNoRatio (neg (up 13 1)) (neg (up 25 0)) true
+          ∷ Gaps.NoGap
+          ∷ Gaps.DownNoRatio (neg (up 27 0)) (neg (up 13 1)) false
+          ∷ [];
+    }
+unfolding told run-19 settings bar fx kept measured fake stroke zone answers up dn neg neither rises falls
+run-19-told = refl
+
+unfoldable run-20 : List Bar
+unfolding bar up dn neg
+run-20 =
+    bar (negsuc 1099511627775) (pos 0) (neg (dn 1 18)) (neg (dn 1 19)) (up 0 0) (up 0 0) (up 1 50) (dn 511173816398037 41)
+    ∷ bar (negsuc 1099511627705) (pos 1) (neg (dn 4503599627370497 71)) (neg (dn 4503599627370497 71)) (neg (dn 1 19)) (neg (dn 1 18)) (dn 5036691655344783 35) (dn 1222083419263077 34)
+    ∷ bar (negsuc 1099511627635) (pos 2) (neg (dn 4503599627370497 71)) (neg (dn 4503599627370497 71)) (neg (dn 1 18)) (neg (dn 5764607523034235 58)) (up 1 50) (dn 3946053275624869 42)
+    ∷ bar (negsuc 1099511627565) (pos 3) (neg (up 1 0)) (up 0 0) (neg (dn 1 18)) (neg (dn 5764607523034235 58)) (up 6823 0) (up 16639 0)
+    ∷ bar (negsuc 1099511627495) (pos 4) (up 0 0) (neg (up 1 1)) (neg (dn 5764607523034235 58)) (neg (up 1 0)) (up 121 5) (up 3013 1)
+    ∷ bar (negsuc 1099511627425) (pos 5) (neg (dn 5764607523034235 58)) (neg (dn 5764607523034235 58)) (neg (up 1 0)) (neg (up 1 1)) (dn 2350085499494049 12) (up 5819 1)
+    ∷ bar (negsuc 1099511627425) (pos 6) (neg (dn 5764607523034235 58)) (neg (dn 5764607523034235 58)) (neg (dn 5764607523034235 58)) (neg (up 1 0)) (dn 5158736071638385 35) (dn 6584439126831923 36)
+    ∷ bar (negsuc 1099511627355) (pos 7) (neg (dn 1 19)) (neg (dn 1 19)) (neg (dn 1 18)) (neg (up 1 0)) (up 1953 0) (up 3079 2)
+    ∷ bar (negsuc 1099511627355) (pos 8) (neg (up 1 0)) (neg (dn 1 19)) (neg (up 1 0)) (neg (up 1 1)) (up 1 50) (up 8469 0)
+    ∷ bar (negsuc 1099511627309) (pos 9) (neg (dn 5764607523034235 58)) (up 0 0) (neg (dn 1 18)) (neg (up 1 0)) (dn 3095699727014953 34) (up 2341 2)
+    ∷ bar (negsuc 1099511627239) (pos 10) (up 0 0) (neg (dn 4503599627370497 71)) (neg (dn 4503599627370497 71)) (neg (dn 4503599627370497 71)) (dn 6719217949359473 35) (up 0 0)
+    ∷ bar (negsuc 1099511627169) (pos 11) (neg (dn 5764607523034235 58)) (up 0 0) (neg (dn 1 19)) (neg (up 1 1)) (up 163 0) (up 1 50)
+    ∷ bar (negsuc 1099511627099) (pos 12) (neg (up 1 1)) (neg (dn 1 19)) (neg (dn 1 19)) (neg (dn 1 18)) (up 3043 2) (up 14943 0)
+    ∷ bar (negsuc 1099511627029) (pos 13) (neg (up 1 1)) (neg (up 1 0)) (up 0 0) (neg (dn 1 19)) (up 8581 0) (up 1 50)
+    ∷ bar (negsuc 1099511627014) (pos 14) (neg (dn 1 18)) (neg (dn 4503599627370497 71)) (neg (up 1 0)) (neg (up 1 1)) (up 5473 1) (dn 3743949792519127 37)
+    ∷ bar (negsuc 1099511626974) (pos 15) (neg (dn 1 18)) (neg (up 1 0)) (up 0 0) (neg (dn 5764607523034235 58)) (up 43 7) (up 0 0)
+    ∷ bar (negsuc 1099511626923) (pos 16) (neg (dn 5764607523034235 58)) (neg (up 1 0)) (neg (dn 5764607523034235 58)) (neg (dn 5764607523034235 58)) (up 11873 0) (dn 1025527551927255 34)
+    ∷ bar (negsuc 1099511626923) (pos 17) (neg (dn 1 18)) (neg (dn 1 19)) (neg (dn 5764607523034235 58)) (neg (up 1 0)) (up 257 3) (up 3115 1)
+    ∷ bar (negsuc 1099511626853) (pos 18) (neg (dn 1 19)) (neg (up 1 1)) (up 0 0) (neg (dn 1 19)) (up 5985 1) (up 1643 0)
+    ∷ bar (negsuc 1099511626783) (pos 19) (up 0 0) (neg (up 1 0)) (neg (dn 1 18)) (neg (up 1 1)) (up 7983 0) (dn 4463137599468339 39)
+    ∷ bar (negsuc 1099511626713) (pos 20) (neg (dn 5764607523034235 58)) (up 0 0) (neg (dn 1 18)) (neg (up 1 0)) (up 1 50) (up 15363 0)
+    ∷ bar (negsuc 1099511626713) (pos 21) (neg (dn 1 19)) (neg (dn 5764607523034235 58)) (neg (dn 1 18)) (neg (dn 5764607523034235 58)) (up 8543 0) (dn 8244154677738865 36)
+    ∷ bar (negsuc 1099511626643) (pos 22) (neg (dn 1 19)) (neg (dn 5764607523034235 58)) (neg (dn 1 19)) (neg (dn 5764607523034235 58)) (dn 1602734735186985 34) (up 1 50)
+    ∷ bar (negsuc 1099511626643) (pos 23) (neg (up 1 1)) (neg (dn 1 19)) (neg (dn 5764607523034235 58)) (neg (up 1 1)) (up 7915 0) (up 1495 3)
+    ∷ bar (negsuc 1099511626573) (pos 24) (neg (dn 4503599627370497 71)) (up 0 0) (neg (dn 1 18)) (neg (dn 5764607523034235 58)) (up 6297 0) (dn 1741532959908823 34)
+    ∷ bar (negsuc 1099511626503) (pos 25) (neg (dn 1 18)) (neg (dn 5764607523034235 58)) (neg (dn 4503599627370497 71)) (neg (dn 1 18)) (dn 5013462410623713 36) (dn 5792634074426245 37)
+    ∷ bar (negsuc 1099511626433) (pos 26) (neg (dn 1 19)) (neg (dn 5764607523034235 58)) (neg (up 1 0)) (neg (up 1 1)) (up 19767 0) (up 2197 2)
+    ∷ bar (negsuc 1099511626433) (pos 27) (neg (dn 1 18)) (neg (dn 1 19)) (neg (dn 1 19)) (neg (dn 1 19)) (up 0 0) (up 1 50)
+    ∷ bar (negsuc 1099511626433) (pos 28) (neg (dn 1 18)) (neg (up 1 0)) (neg (dn 1 19)) (neg (dn 1 19)) (dn 207552481300693 50) (up 3189 2)
+    ∷ bar (negsuc 1099511626363) (pos 29) (neg (dn 4503599627370497 71)) (neg (dn 5764607523034235 58)) (up 0 0) (up 0 0) (dn 7366364777092543 43) (dn 3506111683535831 39)
+    ∷ bar (negsuc 1099511626293) (pos 30) (neg (up 1 0)) (neg (dn 1 19)) (neg (dn 1 19)) (neg (dn 1 19)) (up 12489 0) (up 12169 0)
+    ∷ bar (negsuc 1099511626223) (pos 31) (neg (dn 1 18)) (neg (dn 1 19)) (up 0 0) (neg (dn 1 19)) (up 17473 0) (up 12921 0)
+    ∷ bar (negsuc 1099511626153) (pos 32) (neg (dn 1 19)) (neg (dn 5764607523034235 58)) (neg (dn 4503599627370497 71)) (neg (dn 1 18)) (up 1 50) (dn 726541993550807 33)
+    ∷ bar (negsuc 1099511626083) (pos 33) (neg (dn 4503599627370497 71)) (neg (up 1 1)) (neg (dn 4503599627370497 71)) (neg (dn 4503599627370497 71)) (up 19905 0) (dn 6771633043045089 35)
+    ∷ bar (negsuc 1099511626083) (pos 34) (neg (up 1 1)) (neg (dn 1 18)) (neg (dn 4503599627370497 71)) (neg (dn 4503599627370497 71)) (up 8221 1) (up 11167 0)
+    ∷ bar (negsuc 1099511626013) (pos 35) (neg (up 1 1)) (up 0 0) (neg (dn 1 18)) (neg (dn 5764607523034235 58)) (dn 808560922418217 34) (up 2653 0)
+    ∷ bar (negsuc 1099511626013) (pos 36) (neg (dn 4503599627370497 71)) (neg (up 1 0)) (neg (dn 4503599627370497 71)) (neg (dn 4503599627370497 71)) (dn 2836205092354071 25) (dn 2903905406509083 13)
+    ∷ bar (negsuc 1099511626013) (pos 37) (neg (dn 1 18)) (neg (dn 5764607523034235 58)) (neg (dn 1 19)) (neg (up 1 0)) (dn 2239556064515195 34) (dn 1432304076330107 33)
+    ∷ bar (negsuc 1099511626013) (pos 38) (neg (up 1 1)) (neg (up 1 1)) (up 0 0) (up 0 0) (up 15375 2) (up 1 50)
+    ∷ bar (negsuc 1099511626013) (pos 39) (neg (dn 4503599627370497 71)) (neg (dn 1 19)) (up 0 0) (up 0 0) (dn 4852356469363835 37) (dn 4095366078262149 35)
+    ∷ []
+
+run-20-told : told (settings 1 5 64 64 64) run-20
+    ≡ record {
+      events = (9, 1, 3);
+      raw = (negsuc 1099511627014) ∷ (negsuc 1099511626974) ∷ (negsuc 1099511626923) ∷ (negsuc 1099511626853) ∷ (negsuc 1099511626783) ∷ (negsuc 1099511626713) ∷ (negsuc 1099511626643) ∷ (negsuc 1099511626573) ∷ (negsuc 1099511626503) ∷ (negsuc 1099511626433) ∷ (negsuc 1099511626363) ∷ (negsuc 1099511626293) ∷ (negsuc 1099511626223) ∷ (negsuc 1099511626153) ∷ (negsuc 1099511626083) ∷ (negsuc 1099511626013) ∷ [];
+      ids = map pos (14 ∷ 15 ∷ 17 ∷ 18 ∷ 19 ∷ 21 ∷ 23 ∷ 24 ∷ 25 ∷ 28 ∷ 29 ∷ 30 ∷ 31 ∷ 32 ∷ 34 ∷ 39 ∷ []);
+      ubi =
+          (bar (negsuc 1099511626223) (pos 30) (neg (dn 1 19)) (neg (dn 1 19)) (neg (dn 1 19)) (neg (dn 1 19)) (up 14981 1) (up 12545 1), (negsuc 1099511626293) ∷ (negsuc 1099511626223) ∷ [])
+          ∷ (bar (negsuc 1099511626153) (pos 32) (neg (dn 1 18)) (neg (dn 4503599627370497 71)) (neg (dn 4503599627370497 71)) (neg (dn 1 18)) (up 562949953429533 1) (dn 918389592728535 33), (negsuc 1099511626153) ∷ (negsuc 1099511626083) ∷ [])
+          ∷ (bar (negsuc 1099511626013) (pos 39) (neg (dn 4503599627370497 71)) (neg (dn 1 19)) (up 0 0) (up 0 0) (dn 4852356469363835 37) (dn 4095366078262149 35), (negsuc 1099511626013) ∷ [])
+          ∷ [];
+      strokes =
+          kept Down (fx (negsuc 1099511626974) G (up 0 0) (neg (dn 5764607523034235 58)) (up 0 0)) (fx (negsuc 1099511626923) D (neg (dn 5764607523034235 58)) (neg (up 1 0)) (neg (up 1 0)))
+          (fx (negsuc 1099511626974) G (up 0 0) (neg (dn 5764607523034235 58)) (up 0 0) ∷ fx (negsuc 1099511626923) D (neg (dn 5764607523034235 58)) (neg (up 1 0)) (neg (up 1 0)) ∷ [])
+          ((negsuc 1099511627014) ∷ (negsuc 1099511626974) ∷ (negsuc 1099511626923) ∷ (negsuc 1099511626853) ∷ [])
+          ∷ kept Up (fx (negsuc 1099511626923) D (neg (dn 5764607523034235 58)) (neg (up 1 0)) (neg (up 1 0))) (fx (negsuc 1099511626853) G (up 0 0) (neg (dn 1 19)) (up 0 0))
+          (fx (negsuc 1099511626923) D (neg (dn 5764607523034235 58)) (neg (up 1 0)) (neg (up 1 0)) ∷ fx (negsuc 1099511626853) G (up 0 0) (neg (dn 1 19)) (up 0 0) ∷ [])
+          ((negsuc 1099511626974) ∷ (negsuc 1099511626923) ∷ (negsuc 1099511626853) ∷ (negsuc 1099511626783) ∷ [])
+          ∷ kept Down (fx (negsuc 1099511626853) G (up 0 0) (neg (dn 1 19)) (up 0 0)) (fx (negsuc 1099511626783) D (neg (dn 1 18)) (neg (up 1 1)) (neg (up 1 1)))
+          (fx (negsuc 1099511626853) G (up 0 0) (neg (dn 1 19)) (up 0 0) ∷ fx (negsuc 1099511626783) D (neg (dn 1 18)) (neg (up 1 1)) (neg (up 1 1)) ∷ [])
+          ((negsuc 1099511626923) ∷ (negsuc 1099511626853) ∷ (negsuc 1099511626783) ∷ (negsuc 1099511626643) ∷ [])
+          ∷ kept Up (fx (negsuc 1099511626643) D (neg (dn 5764607523034235 58)) (neg (up 1 1)) (neg (up 1 1))) (fx (negsuc 1099511626363) G (up 0 0) (up 0 0) (up 0 0))
+          (fx (negsuc 1099511626643) D (neg (dn 5764607523034235 58)) (neg (up 1 1)) (neg (up 1 1)) ∷ fx (negsuc 1099511626363) G (up 0 0) (up 0 0) (up 0 0) ∷ [])
+          ((negsuc 1099511626853) ∷ (negsuc 1099511626643) ∷ (negsuc 1099511626573) ∷ (negsuc 1099511626503) ∷ (negsuc 1099511626433) ∷ (negsuc 1099511626363) ∷ (negsuc 1099511626293) ∷ [])
+          ∷ kept Down (fx (negsuc 1099511626363) G (up 0 0) (up 0 0) (up 0 0)) (fx (negsuc 1099511626153) D (neg (dn 4503599627370497 71)) (neg (dn 1 18)) (neg (dn 1 18)))
+          (fx (negsuc 1099511626363) G (up 0 0) (up 0 0) (up 0 0) ∷ fx (negsuc 1099511626153) D (neg (dn 4503599627370497 71)) (neg (dn 1 18)) (neg (dn 1 18)) ∷ [])
+          ((negsuc 1099511626433) ∷ (negsuc 1099511626363) ∷ (negsuc 1099511626223) ∷ (negsuc 1099511626153) ∷ (negsuc 1099511626013) ∷ [])
+          ∷ [];
+      measures =
+          measured (up 0 0) (neg (up 1 0)) (up 1 0) (up 945 3) (dn 1099512676353 59) (up 0 0) (up 0 0) (dn 1048575 19) (up 0 0) 4
+          ((negsuc 1099511626974) ∷ (negsuc 1099511626923) ∷ [])
+          (fake Down (negsuc 1099511626974) (negsuc 1099511626923) (up 0 0) (neg (up 1 0)) (up 1 0) ∷ [])
+          ∷ measured (up 0 0) (neg (up 1 0)) (up 1 0) (up 7013 1) (dn 1048575 19) (up 1 0) (neg (up 1 0)) (neg (dn 2097151 19)) (up 0 0) 4
+          ((negsuc 1099511626923) ∷ (negsuc 1099511626853) ∷ [])
+          (fake Up (negsuc 1099511626923) (negsuc 1099511626853) (up 0 0) (neg (up 1 0)) (up 1 0) ∷ [])
+          ∷ measured (up 0 0) (neg (up 1 1)) (up 1 1) (up 1781 4) (dn 7659882285364583 60) (dn 3804640965202595 59) (up 0 0) (dn 8962163258467287 52) (neg (dn 5629499534213 49)) 4
+          ((negsuc 1099511626853) ∷ (negsuc 1099511626783) ∷ (negsuc 1099511626713) ∷ [])
+          (fake Down (negsuc 1099511626853) (negsuc 1099511626783) (up 0 0) (neg (up 1 1)) (up 1 1) ∷ [])
+          ∷ measured (up 0 0) (neg (up 1 1)) (up 1 1) (dn 4647811677632605 35) (dn 5721702935976119 60) (dn 5764607523034235 60) (neg (up 1 0)) (dn 5044036491189009 56) (neg (dn 8612593235999241 56)) 7
+          ((negsuc 1099511626783) ∷ (negsuc 1099511626713) ∷ (negsuc 1099511626643) ∷ (negsuc 1099511626573) ∷ (negsuc 1099511626503) ∷ (negsuc 1099511626433) ∷ (negsuc 1099511626363) ∷ [])
+          (fake Up (negsuc 1099511626643) (negsuc 1099511626363) (up 0 0) (neg (up 1 1)) (up 1 1) ∷ [])
+          ∷ measured (up 0 0) (neg (dn 1 18)) (up 0 0) (dn 4503599627557787 1) (dn 745630019217895 70) (up 0 0) (up 0 0) (dn 576295825559257 58) (neg (dn 3294375587913213 61)) 5
+          ((negsuc 1099511626363) ∷ (negsuc 1099511626293) ∷ (negsuc 1099511626223) ∷ (negsuc 1099511626153) ∷ (negsuc 1099511626083) ∷ [])
+          (fake Down (negsuc 1099511626363) (negsuc 1099511626153) (up 0 0) (neg (dn 1 18)) (up 0 0) ∷ [])
+          ∷ [];
+      fxs =
+          fx (negsuc 1099511626923) D (neg (dn 5764607523034235 58)) (neg (up 1 0)) (neg (up 1 0))
+          ∷ fx (negsuc 1099511626853) G (up 0 0) (neg (dn 1 19)) (up 0 0)
+          ∷ fx (negsuc 1099511626783) D (neg (dn 1 18)) (neg (up 1 1)) (neg (up 1 1))
+          ∷ fx (negsuc 1099511626363) G (up 0 0) (up 0 0) (up 0 0)
+          ∷ fx (negsuc 1099511626153) D (neg (dn 4503599627370497 71)) (neg (dn 1 18)) (neg (dn 1 18))
+          ∷ [];
+      finished = 4;
+      extend = false;
+      zones =
+          zone (negsuc 1099511626974) (negsuc 1099511626153) Down Down (up 0 0) (neg (up 1 0)) (neg (dn 1 0)) (up 0 0) (neg (up 1 1)) true
+          (stroke Down (up 0 0) (neg (up 1 0)) (negsuc 1099511626974) (negsuc 1099511626923)
+          ∷ stroke Up (up 0 0) (neg (up 1 0)) (negsuc 1099511626923) (negsuc 1099511626853)
+          ∷ stroke Down (up 0 0) (neg (up 1 1)) (negsuc 1099511626853) (negsuc 1099511626783)
+          ∷ stroke Up (up 0 0) (neg (up 1 1)) (negsuc 1099511626643) (negsuc 1099511626363)
+          ∷ stroke Down (up 0 0) (neg (dn 1 18)) (negsuc 1099511626363) (negsuc 1099511626153)
+          ∷ [])
+          ∷ [];
+      finZones =
+          zone (negsuc 1099511626974) (negsuc 1099511626363) Down Up (up 0 0) (neg (up 1 0)) (neg (dn 1 0)) (up 0 0) (neg (up 1 1)) true
+          (stroke Down (up 0 0) (neg (up 1 0)) (negsuc 1099511626974) (negsuc 1099511626923)
+          ∷ stroke Up (up 0 0) (neg (up 1 0)) (negsuc 1099511626923) (negsuc 1099511626853)
+          ∷ stroke Down (up 0 0) (neg (up 1 1)) (negsuc 1099511626853) (negsuc 1099511626783)
+          ∷ stroke Up (up 0 0) (neg (up 1 1)) (negsuc 1099511626643) (negsuc 1099511626363)
+          ∷ [])
+          ∷ [];
+      bis =
+          (neither ∷ neither ∷ neither ∷ falls ∷ neither ∷ neither ∷ [])
+          ∷ (neither ∷ neither ∷ neither ∷ neither ∷ neither ∷ [])
+          ∷ (neither ∷ neither ∷ neither ∷ neither ∷ [])
+          ∷ (neither ∷ neither ∷ neither ∷ [])
+          ∷ (neither ∷ neither ∷ [])
+          ∷ (neither ∷ [])
+          ∷ [];
+      answers =
+          answers Weak (up 9253 1) false
+          ∷ answers Weak (up 9765 1) false
+          ∷ answers Weak (up 9765 1) false
+          ∷ answers Medium (up 22009 0) false
+          ∷ answers Strong (up 3819 3) false
+          ∷ answers Weak (dn 2581849839721513 34) false
+          ∷ answers Medium (up 10677 2) false
+          ∷ answers Medium (dn 7096149930923879 38) false
+          ∷ answers Medium (dn 2087754158373613 35) false
+          ∷ answers Weak (up 8796093023051 7) false
+          ∷ answers Medium (dn 4503599627626723 1) false
+          ∷ [];
+      ubifx =
+          fx (negsuc 1099511626153) D (neg (dn 4503599627370497 71)) (neg (dn 1 18)) (neg (dn 1 18))
+          ∷ [];
+      unfinished = some (Up, (up 0 0), (neg (dn 1 18)), (negsuc 1099511626013), (negsuc 1099511626153), 3, 16, 1, (negsuc 1099511626153));
+      gaps =
+          Gaps.UpNoRatio (neg (up 1 0)) (neg (dn 5764607523034235 58)) true
+          ∷ Gaps.NoGap
+          ∷ Gaps.UpNoRatio (neg (dn 5764607523034235 58)) (neg (dn 1 19)) true
+          ∷ Gaps.DownNoRatio (neg (dn 1 18)) (neg (dn 1 19)) true
+          ∷ Gaps.NoGap
+          ∷ Gaps.NoGap
+          ∷ Gaps.NoGap
+          ∷ Gaps.NoGap
+          ∷ Gaps.UpNoRatio (neg (dn 4503599627370497 71)) (neg (dn 1 19)) true
+          ∷ Gaps.UpNoRatio (neg (dn 1 19)) (up 0 0) true
+          ∷ Gaps.DownNoRatio (neg (dn 1 19)) (up 0 0) false
+          ∷ Gaps.NoGap
+          ∷ Gaps.DownNoRatio (neg (dn 4503599627370497 71)) (neg (dn 1 19)) true
+          ∷ Gaps.NoGap
+          ∷ Gaps.UpNoRatio (neg (dn 4503599627370497 71)) (up 0 0) false
+          ∷ [];
+    }
+unfolding told run-20 settings bar fx kept measured fake stroke zone answers up dn neg neither rises falls
+run-20-told = refl
+
+unfoldable run-21 : List Bar
+unfolding bar up dn neg
+run-21 =
+    bar (pos 0) (pos 0) (dn 17 0) (dn 31 1) (dn 17 0) (dn 31 1) (up 1907 2) (up 1915 0)
+    ∷ bar (pos 0) (pos 1) (dn 39 1) (dn 39 1) (dn 47 1) (dn 39 1) (up 0 0) (dn 660075227161559 32)
+    ∷ bar (pos 0) (pos 2) (up 13 0) (up 13 0) (up 13 0) (up 13 0) (up 649 0) (up 19855 0)
+    ∷ bar (pos 70) (pos 3) (dn 29 0) (dn 65 1) (dn 65 1) (dn 29 0) (up 0 0) (dn 4542047487409521 35)
+    ∷ bar (pos 70) (pos 4) (dn 65 1) (dn 65 1) (dn 71 1) (dn 65 1) (up 18839 0) (dn 8941173581493043 37)
+    ∷ bar (pos 140) (pos 5) (dn 47 1) (dn 57 1) (dn 57 1) (dn 47 1) (dn 6370912594328289 35) (up 14061 0)
+    ∷ bar (pos 140) (pos 6) (neg (up 11 0)) (neg (dn 47 1)) (neg (up 11 0)) (neg (dn 47 1)) (up 18063 0) (up 19305 0)
+    ∷ bar (pos 140) (pos 7) (neg (dn 27 0)) (neg (dn 27 0)) (neg (dn 53 1)) (neg (dn 27 0)) (up 18297 0) (up 7957 1)
+    ∷ bar (pos 210) (pos 8) (neg (dn 67 1)) (neg (dn 67 1)) (neg (dn 67 1)) (neg (up 9 1)) (up 1777 3) (up 11145 1)
+    ∷ bar (pos 280) (pos 9) (neg (dn 71 1)) (neg (dn 79 1)) (neg (dn 71 1)) (neg (dn 79 1)) (up 335 4) (dn 8435791308123013 37)
+    ∷ bar (pos 350) (pos 10) (neg (dn 85 1)) (up 0 0) (neg (dn 85 1)) (neg (dn 43 0)) (up 7213 1) (up 3053 0)
+    ∷ bar (pos 420) (pos 11) (neg (dn 101 1)) (neg (dn 101 1)) (neg (up 25 0)) (neg (dn 101 1)) (dn 1551306796784681 33) (dn 5656311812451205 35)
+    ∷ bar (pos 490) (pos 12) (neg (dn 103 1)) (neg (dn 103 1)) (neg (dn 103 1)) (neg (dn 55 0)) (up 6499 1) (up 11847 3)
+    ∷ bar (pos 560) (pos 13) (dn 117 1) (dn 57 0) (dn 117 1) (dn 57 0) (up 1 50) (up 10229 0)
+    ∷ bar (pos 592) (pos 14) (neg (up 25 0)) (neg (up 25 0)) (neg (up 25 0)) (neg (dn 107 1)) (dn 2368368662072525 36) (dn 6263805043498025 35)
+    ∷ bar (pos 662) (pos 15) (neg (dn 43 0)) (neg (dn 95 1)) (neg (dn 43 0)) (neg (dn 95 1)) (up 0 0) (up 231 5)
+    ∷ bar (pos 732) (pos 16) (neg (dn 109 1)) (neg (dn 109 1)) (neg (dn 51 0)) (neg (dn 109 1)) (up 8715 0) (up 6097 0)
+    ∷ bar (pos 802) (pos 17) (dn 57 0) (dn 57 0) (dn 57 0) (dn 109 1) (dn 4531913426175263 35) (dn 5679945127695483 39)
+    ∷ bar (pos 872) (pos 18) (dn 103 1) (dn 107 1) (dn 107 1) (dn 103 1) (up 4069 2) (up 2243 1)
+    ∷ bar (pos 872) (pos 19) (dn 107 1) (dn 107 1) (dn 107 1) (dn 97 1) (up 13915 0) (up 939 0)
+    ∷ bar (pos 942) (pos 20) (dn 43 0) (up 23 0) (up 23 0) (dn 43 0) (up 1 50) (dn 6489727195215299 35)
+    ∷ bar (pos 1012) (pos 21) (up 11 1) (dn 93 1) (dn 93 1) (up 11 1) (up 15971 0) (dn 5843327745219625 35)
+    ∷ bar (pos 1012) (pos 22) (up 21 0) (dn 41 0) (up 21 0) (dn 41 0) (dn 4859232540206039 35) (up 12991 0)
+    ∷ bar (pos 1082) (pos 23) (up 25 0) (up 25 0) (dn 101 1) (up 25 0) (up 8651 0) (up 7139 0)
+    ∷ bar (pos 1152) (pos 24) (dn 109 1) (dn 107 1) (dn 109 1) (dn 107 1) (up 689 0) (up 619 2)
+    ∷ bar (pos 1222) (pos 25) (up 13 1) (dn 95 1) (up 13 1) (dn 95 1) (dn 743874419973161 33) (dn 8471892398031503 36)
+    ∷ bar (pos 1224) (pos 26) (up 11 1) (dn 45 0) (dn 45 0) (up 11 1) (dn 7991359087449211 36) (up 13345 0)
+    ∷ bar (pos 1294) (pos 27) (dn 75 1) (dn 75 1) (dn 79 1) (dn 75 1) (up 17941 0) (up 1195 0)
+    ∷ bar (pos 1294) (pos 28) (dn 69 1) (dn 69 1) (up 9 1) (dn 69 1) (up 4349 2) (dn 6188692593841275 35)
+    ∷ bar (pos 1364) (pos 29) (dn 29 0) (dn 29 0) (dn 33 0) (dn 29 0) (up 0 0) (up 14241 0)
+    ∷ bar (pos 1434) (pos 30) (up 3 2) (up 3 2) (dn 29 0) (up 3 2) (dn 1650642861990871 33) (dn 3197009415593001 34)
+    ∷ bar (pos 1504) (pos 31) (up 5 1) (dn 43 1) (dn 43 1) (up 5 1) (up 0 0) (up 1771 1)
+    ∷ bar (pos 1574) (pos 32) (dn 17 0) (dn 17 0) (dn 39 1) (dn 17 0) (up 3569 0) (up 15729 0)
+    ∷ bar (pos 1644) (pos 33) (neg (up 5 0)) (neg (dn 27 1)) (neg (up 5 0)) (neg (dn 27 1)) (up 0 0) (up 5205 1)
+    ∷ bar (pos 1714) (pos 34) (neg (up 9 0)) (neg (dn 21 0)) (neg (up 9 0)) (neg (dn 21 0)) (up 13681 0) (up 211 1)
+    ∷ bar (pos 1780) (pos 35) (dn 53 1) (dn 45 1) (dn 53 1) (dn 45 1) (up 19151 0) (up 3797 0)
+    ∷ bar (pos 1850) (pos 36) (dn 31 1) (dn 31 1) (dn 37 1) (dn 31 1) (up 151 7) (up 5399 0)
+    ∷ bar (pos 1920) (pos 37) (up 7 0) (up 1 3) (up 1 3) (up 7 0) (dn 6172878180660019 35) (dn 3163768430306263 35)
+    ∷ bar (pos 1990) (pos 38) (dn 23 1) (up 0 0) (dn 23 1) (dn 17 1) (up 1 50) (up 4383 1)
+    ∷ bar (pos 2060) (pos 39) (dn 15 1) (up 3 1) (up 3 1) (dn 15 1) (up 1913 2) (up 0 0)
+    ∷ []
+
+run-21-told : told (settings 1 5 64 64 64) run-21
+    ≡ record {
+      events = (11, 1, 5);
+      raw = map pos (662 ∷ 732 ∷ 802 ∷ 872 ∷ 942 ∷ 1012 ∷ 1082 ∷ 1152 ∷ 1222 ∷ 1224 ∷ 1294 ∷ 1364 ∷ 1434 ∷ 1504 ∷ 1574 ∷ 1644 ∷ 1714 ∷ 1780 ∷ 1850 ∷ 1920 ∷ 1990 ∷ 2060 ∷ []);
+      ids = map pos (15 ∷ 16 ∷ 17 ∷ 19 ∷ 20 ∷ 22 ∷ 23 ∷ 24 ∷ 25 ∷ 26 ∷ 28 ∷ 29 ∷ 30 ∷ 31 ∷ 32 ∷ 33 ∷ 34 ∷ 35 ∷ 36 ∷ 37 ∷ 38 ∷ 39 ∷ []);
+      ubi =
+          (bar (pos 1714) (pos 34) (neg (up 9 0)) (neg (dn 21 0)) (neg (up 9 0)) (neg (dn 21 0)) (up 13681 0) (up 211 1), map pos (1714 ∷ []))
+          ∷ (bar (pos 1780) (pos 35) (dn 53 1) (dn 45 1) (dn 53 1) (dn 45 1) (up 19151 0) (up 3797 0), map pos (1780 ∷ []))
+          ∷ (bar (pos 1850) (pos 36) (dn 31 1) (dn 31 1) (dn 37 1) (dn 31 1) (up 151 7) (up 5399 0), map pos (1850 ∷ []))
+          ∷ (bar (pos 1920) (pos 37) (up 7 0) (up 1 3) (up 1 3) (up 7 0) (dn 6172878180660019 35) (dn 3163768430306263 35), map pos (1920 ∷ []))
+          ∷ (bar (pos 2060) (pos 38) (dn 15 1) (dn 23 1) (dn 23 1) (dn 15 1) (up 281474976712569 2) (up 4383 1), map pos (1990 ∷ 2060 ∷ []))
+          ∷ [];
+      strokes =
+          kept Up (fx (pos 732) D (neg (dn 51 0)) (neg (dn 109 1)) (neg (dn 109 1))) (fx (pos 802) G (dn 57 0) (dn 109 1) (dn 57 0))
+          (fx (pos 732) D (neg (dn 51 0)) (neg (dn 109 1)) (neg (dn 109 1)) ∷ fx (pos 802) G (dn 57 0) (dn 109 1) (dn 57 0) ∷ [])
+          (map pos (662 ∷ 732 ∷ 802 ∷ 872 ∷ []))
+          ∷ kept Down (fx (pos 802) G (dn 57 0) (dn 109 1) (dn 57 0)) (fx (pos 1012) D (up 21 0) (dn 41 0) (dn 41 0))
+          (fx (pos 802) G (dn 57 0) (dn 109 1) (dn 57 0) ∷ fx (pos 1012) D (up 21 0) (dn 41 0) (dn 41 0) ∷ [])
+          (map pos (732 ∷ 802 ∷ 872 ∷ 942 ∷ 1012 ∷ 1082 ∷ []))
+          ∷ kept Up (fx (pos 1012) D (up 21 0) (dn 41 0) (dn 41 0)) (fx (pos 1152) G (dn 109 1) (dn 107 1) (dn 109 1))
+          (fx (pos 1012) D (up 21 0) (dn 41 0) (dn 41 0) ∷ fx (pos 1152) G (dn 109 1) (dn 107 1) (dn 109 1) ∷ [])
+          (map pos (942 ∷ 1012 ∷ 1082 ∷ 1152 ∷ 1222 ∷ []))
+          ∷ kept Down (fx (pos 1152) G (dn 109 1) (dn 107 1) (dn 109 1)) (fx (pos 1714) D (neg (up 9 0)) (neg (dn 21 0)) (neg (dn 21 0)))
+          (fx (pos 1152) G (dn 109 1) (dn 107 1) (dn 109 1) ∷ fx (pos 1714) D (neg (up 9 0)) (neg (dn 21 0)) (neg (dn 21 0)) ∷ [])
+          (map pos (1082 ∷ 1152 ∷ 1222 ∷ 1224 ∷ 1294 ∷ 1364 ∷ 1434 ∷ 1504 ∷ 1574 ∷ 1644 ∷ 1714 ∷ 1780 ∷ []))
+          ∷ kept Up (fx (pos 1714) D (neg (up 9 0)) (neg (dn 21 0)) (neg (dn 21 0))) (fx (pos 1780) G (dn 53 1) (dn 45 1) (dn 53 1))
+          (fx (pos 1714) D (neg (up 9 0)) (neg (dn 21 0)) (neg (dn 21 0)) ∷ fx (pos 1780) G (dn 53 1) (dn 45 1) (dn 53 1) ∷ [])
+          (map pos (1644 ∷ 1714 ∷ 1780 ∷ 1850 ∷ []))
+          ∷ [];
+      measures =
+          measured (dn 57 0) (neg (dn 109 1)) (dn 223 1) (dn 5130803665929503 35) (up 0 0) (up 0 0) (neg (dn 4606957238818649 50)) (dn 223 1) (up 0 0) 4
+          (map pos (732 ∷ 802 ∷ []))
+          (fake Up (pos 732) (pos 802) (dn 57 0) (neg (dn 109 1)) (dn 223 1) ∷ [])
+          ∷ measured (dn 57 0) (dn 41 0) (up 1 3) (dn 4503599627972793 1) (up 1 2) (up 1 2) (neg (dn 5056641661611593 53)) (neg (dn 6248744482976563 50)) (neg (dn 3 3)) 6
+          (map pos (802 ∷ 872 ∷ 942 ∷ 1012 ∷ []))
+          (fake Down (pos 802) (pos 1012) (dn 57 0) (dn 41 0) (up 1 3) ∷ [])
+          ∷ measured (dn 109 1) (dn 41 0) (dn 27 1) (dn 5501072452920279 35) (dn 23 1) (dn 23 1) (dn 5932141429172417 53) (dn 25 2) (neg (dn 11 2)) 5
+          (map pos (1012 ∷ 1082 ∷ 1152 ∷ []))
+          (fake Up (pos 1012) (pos 1152) (dn 109 1) (dn 41 0) (dn 27 1) ∷ [])
+          ∷ measured (dn 109 1) (neg (dn 21 0)) (dn 151 1) (dn 8000975691023647 34) (dn 5862444342525387 49) (dn 5862448224938859 49) (neg (dn 1559709140949087 49)) (neg (dn 8744489276477713 50)) (neg (dn 3053577020073177 52)) 12
+          (map pos (1152 ∷ 1222 ∷ 1224 ∷ 1294 ∷ 1364 ∷ 1434 ∷ 1504 ∷ 1574 ∷ 1644 ∷ 1714 ∷ []))
+          (fake Down (pos 1152) (pos 1714) (dn 109 1) (neg (dn 21 0)) (dn 151 1) ∷ [])
+          ∷ measured (dn 53 1) (neg (dn 21 0)) (dn 95 1) (up 513 6) (dn 6514135175303753 49) (dn 3257059545509685 48) (neg (dn 2546672999287331 49)) (dn 87 1) (up 0 0) 4
+          (map pos (1714 ∷ 1780 ∷ []))
+          (fake Up (pos 1714) (pos 1780) (dn 53 1) (neg (dn 21 0)) (dn 95 1) ∷ [])
+          ∷ [];
+      fxs =
+          fx (pos 802) G (dn 57 0) (dn 109 1) (dn 57 0)
+          ∷ fx (pos 1012) D (up 21 0) (dn 41 0) (dn 41 0)
+          ∷ fx (pos 1152) G (dn 109 1) (dn 107 1) (dn 109 1)
+          ∷ fx (pos 1714) D (neg (up 9 0)) (neg (dn 21 0)) (neg (dn 21 0))
+          ∷ fx (pos 1780) G (dn 53 1) (dn 45 1) (dn 53 1)
+          ∷ [];
+      finished = 5;
+      extend = false;
+      zones =
+          zone (pos 732) (pos 1714) Up Down (dn 109 1) (dn 41 0) (dn 191 2) (dn 57 0) (neg (dn 109 1)) true
+          (stroke Up (dn 57 0) (neg (dn 109 1)) (pos 732) (pos 802)
+          ∷ stroke Down (dn 57 0) (dn 41 0) (pos 802) (pos 1012)
+          ∷ stroke Up (dn 109 1) (dn 41 0) (pos 1012) (pos 1152)
+          ∷ stroke Down (dn 109 1) (neg (dn 21 0)) (pos 1152) (pos 1714)
+          ∷ [])
+          ∷ zone (pos 1714) (pos 1780) Up Up (dn 53 1) (neg (dn 21 0)) (dn 11 2) (dn 53 1) (neg (dn 21 0)) true
+          (stroke Up (dn 53 1) (neg (dn 21 0)) (pos 1714) (pos 1780)
+          ∷ [])
+          ∷ [];
+      finZones =
+          zone (pos 732) (pos 1714) Up Down (dn 109 1) (dn 41 0) (dn 191 2) (dn 57 0) (neg (dn 109 1)) true
+          (stroke Up (dn 57 0) (neg (dn 109 1)) (pos 732) (pos 802)
+          ∷ stroke Down (dn 57 0) (dn 41 0) (pos 802) (pos 1012)
+          ∷ stroke Up (dn 109 1) (dn 41 0) (pos 1012) (pos 1152)
+          ∷ stroke Down (dn 109 1) (neg (dn 21 0)) (pos 1152) (pos 1714)
+          ∷ [])
+          ∷ zone (pos 1714) (pos 1780) Up Up (dn 53 1) (neg (dn 21 0)) (dn 11 2) (dn 53 1) (neg (dn 21 0)) true
+          (stroke Up (dn 53 1) (neg (dn 21 0)) (pos 1714) (pos 1780)
+          ∷ [])
+          ∷ [];
+      bis =
+          (neither ∷ neither ∷ neither ∷ neither ∷ neither ∷ neither ∷ [])
+          ∷ (neither ∷ neither ∷ neither ∷ falls ∷ neither ∷ [])
+          ∷ (neither ∷ neither ∷ neither ∷ neither ∷ [])
+          ∷ (neither ∷ neither ∷ neither ∷ [])
+          ∷ (neither ∷ neither ∷ [])
+          ∷ (neither ∷ [])
+          ∷ [];
+      answers =
+          answers Strong (dn 5130803665929503 35) false
+          ∷ answers Medium (dn 6249281869284639 35) false
+          ∷ answers Medium (dn 6087035184710943 35) false
+          ∷ answers Strong (dn 4503599627687945 1) false
+          ∷ answers Strong (dn 4503599627687945 1) false
+          ∷ answers Strong (dn 904334398151721 33) false
+          ∷ answers Strong (dn 904334398151721 33) false
+          ∷ answers Strong (up 513 6) false
+          ∷ answers Strong (up 513 6) false
+          ∷ answers Medium (up 815 6) false
+          ∷ answers Medium (up 815 6) false
+          ∷ [];
+      ubifx =
+          fx (pos 1780) G (dn 53 1) (dn 45 1) (dn 53 1)
+          ∷ [];
+      unfinished = some (Down, (dn 53 1), (neg (dn 21 0)), (pos 1780), (pos 1714), 5, 22, 1, (pos 1780));
+      gaps =
+          Gaps.DownNoRatio (neg (dn 51 0)) (neg (dn 95 1)) true
+          ∷ Gaps.UpNoRatio (neg (dn 51 0)) (dn 109 1) false
+          ∷ Gaps.Down (dn 107 1) (dn 109 1) (dn 2694954017018505 56) false
+          ∷ Gaps.Down (up 23 0) (dn 97 1) (dn 3912727356259487 55) true
+          ∷ Gaps.Down (up 21 0) (dn 43 0) (dn 1714970738102685 55) true
+          ∷ Gaps.Up (up 21 0) (up 25 0) (dn 1715871458028159 52) true
+          ∷ Gaps.Up (dn 101 1) (dn 107 1) (dn 8560442171705839 56) true
+          ∷ Gaps.Down (up 13 1) (dn 107 1) (dn 4150517416584649 56) false
+          ∷ Gaps.Down (dn 45 0) (dn 95 1) (dn 4006402228508793 55) false
+          ∷ Gaps.Down (up 9 1) (up 11 1) (dn 4002799348806897 53) false
+          ∷ Gaps.Down (dn 33 0) (dn 69 1) (dn 3278620528725721 55) false
+          ∷ Gaps.NoGap
+          ∷ Gaps.Down (dn 43 1) (up 3 2) (dn 8380298186611019 55) true
+          ∷ Gaps.Down (dn 39 1) (up 5 1) (dn 7378697629483821 57) true
+          ∷ Gaps.DownNoRatio (neg (up 5 0)) (dn 17 0) true
+          ∷ Gaps.DownNoRatio (neg (up 9 0)) (neg (dn 27 1)) true
+          ∷ Gaps.UpNoRatio (neg (up 9 0)) (dn 45 1) false
+          ∷ Gaps.Down (dn 37 1) (dn 45 1) (dn 3894712957750005 53) false
+          ∷ Gaps.NoGap
+          ∷ Gaps.Down (dn 23 1) (up 7 0) (dn 7832660471922767 54) false
+          ∷ Gaps.NoGap
+          ∷ [];
+    }
+unfolding told run-21 settings bar fx kept measured fake stroke zone answers up dn neg neither rises falls
+run-21-told = refl
+
+unfoldable run-22 : List Bar
+unfolding bar up dn neg
+run-22 =
+    bar (negsuc 1099511627775) (negsuc 4) (dn 1 19) (dn 9007199254740991 22) (dn 9007199254740991 22) (neg (dn 9007199254740991 22)) (dn 5204020145223107 35) (up 6039 0)
+    ∷ bar (negsuc 1099511627775) (negsuc 3) (dn 1 19) (neg (up 1 30)) (dn 9007199254740991 22) (neg (up 1 30)) (dn 3212799776957399 34) (dn 2333639212919685 36)
+    ∷ bar (negsuc 1099511627715) (negsuc 2) (up 0 0) (up 1 30) (neg (up 1 0)) (neg (up 1 30)) (up 0 0) (up 2211 0)
+    ∷ bar (negsuc 1099511627655) (negsuc 1) (neg (dn 9007199254740991 22)) (neg (up 1 0)) (neg (dn 9007199254740991 22)) (neg (dn 9007199254740991 22)) (up 6747 1) (up 635 0)
+    ∷ bar (negsuc 1099511627595) (negsuc 0) (dn 1 19) (dn 9007199254740991 22) (dn 1 19) (up 0 0) (up 5091 1) (up 6091 0)
+    ∷ bar (negsuc 1099511627535) (pos 0) (dn 9007199254740991 22) (up 1 30) (neg (dn 1 19)) (neg (dn 1 19)) (up 1611 1) (up 309 3)
+    ∷ bar (negsuc 1099511627475) (pos 1) (dn 1 19) (neg (dn 1 19)) (dn 3 0) (dn 1 19) (up 18813 0) (up 12479 0)
+    ∷ bar (negsuc 1099511627415) (pos 2) (neg (up 1 30)) (neg (dn 9007199254740991 22)) (up 0 0) (neg (dn 1 19)) (dn 586863300533289 32) (dn 6709872100523377 35)
+    ∷ bar (negsuc 1099511627415) (pos 3) (neg (up 1 30)) (dn 3 0) (up 1 30) (dn 9007199254740991 22) (dn 4823024247913841 35) (dn 5274489219836805 41)
+    ∷ bar (negsuc 1099511627355) (pos 4) (dn 3 0) (dn 3 0) (dn 3 0) (up 0 0) (up 8325 1) (up 15359 0)
+    ∷ bar (negsuc 1099511627308) (pos 5) (neg (dn 9007199254740991 22)) (dn 9007199254740991 22) (dn 9007199254740991 22) (neg (dn 9007199254740991 22)) (dn 850009504308265 32) (dn 1359156488311931 34)
+    ∷ bar (negsuc 1099511627308) (pos 6) (dn 9007199254740991 22) (neg (dn 1 19)) (dn 1 19) (neg (up 1 30)) (up 1 50) (up 1 50)
+    ∷ bar (negsuc 1099511627277) (pos 7) (dn 9007199254740991 22) (neg (dn 9007199254740991 22)) (dn 1 19) (neg (up 1 30)) (up 1201 2) (up 7463 0)
+    ∷ bar (negsuc 1099511627217) (pos 8) (neg (dn 9007199254740991 22)) (neg (dn 9007199254740991 22)) (dn 9007199254740991 22) (dn 1 19) (dn 8740019303580959 36) (dn 2982469270807511 40)
+    ∷ bar (negsuc 1099511627199) (pos 9) (up 1 30) (dn 3 0) (dn 9007199254740991 22) (dn 1 19) (dn 90713 1) (up 17075 0)
+    ∷ bar (negsuc 1099511627139) (pos 10) (dn 1 19) (dn 3 0) (dn 3 0) (dn 1 19) (dn 2739732837522473 34) (up 11237 0)
+    ∷ bar (negsuc 1099511627079) (pos 11) (dn 1 19) (up 1 30) (dn 9007199254740991 22) (dn 1 19) (up 2095 2) (up 1 50)
+    ∷ bar (negsuc 1099511627019) (pos 12) (neg (up 1 30)) (dn 9007199254740991 22) (up 1 30) (neg (dn 1 19)) (up 1 50) (dn 3369447885761413 37)
+    ∷ bar (negsuc 1099511626959) (pos 13) (neg (dn 9007199254740991 22)) (dn 1 19) (up 1 30) (dn 3 0) (dn 5784890076592865 35) (up 4721 1)
+    ∷ bar (negsuc 1099511626899) (pos 14) (neg (dn 1 19)) (neg (dn 1 19)) (dn 9007199254740991 22) (neg (dn 1 19)) (up 1029 1) (up 5315 0)
+    ∷ bar (negsuc 1099511626839) (pos 15) (up 0 0) (dn 9007199254740991 22) (dn 3 0) (neg (dn 1 19)) (up 4195 0) (dn 1483433256807301 34)
+    ∷ bar (negsuc 1099511626839) (pos 16) (dn 1 19) (neg (dn 1 19)) (up 1 30) (neg (dn 1 19)) (dn 2140874895922299 34) (up 4687 0)
+    ∷ bar (negsuc 1099511626779) (pos 17) (dn 3 0) (up 1 30) (dn 3 0) (neg (up 1 30)) (up 4655 0) (dn 7376633131475927 36)
+    ∷ bar (negsuc 1099511626779) (pos 18) (dn 3 0) (dn 9007199254740991 22) (up 1 30) (neg (up 1 0)) (up 10589 0) (dn 66257862985461 32)
+    ∷ bar (negsuc 1099511626719) (pos 19) (neg (dn 9007199254740991 22)) (up 0 0) (neg (dn 1 19)) (neg (up 1 30)) (up 415 4) (up 4167 1)
+    ∷ bar (negsuc 1099511626659) (pos 20) (dn 3 0) (neg (up 1 30)) (dn 9007199254740991 22) (dn 3 0) (up 0 0) (up 737 3)
+    ∷ bar (negsuc 1099511626599) (pos 21) (neg (up 1 30)) (dn 9007199254740991 22) (dn 9007199254740991 22) (dn 9007199254740991 22) (up 8983 0) (up 5195 1)
+    ∷ bar (negsuc 1099511626599) (pos 22) (neg (up 1 0)) (neg (dn 1 19)) (dn 1 19) (neg (dn 1 19)) (dn 4221324755950633 36) (up 1505 1)
+    ∷ bar (negsuc 1099511626599) (pos 23) (neg (up 1 0)) (up 1 30) (up 1 30) (dn 3 0) (dn 44936777236157 48) (up 7533 0)
+    ∷ bar (negsuc 1099511626572) (pos 24) (neg (up 1 30)) (up 0 0) (dn 3 0) (up 0 0) (dn 3161657367980933 35) (up 15681 0)
+    ∷ bar (negsuc 1099511626512) (pos 25) (dn 9007199254740991 22) (neg (dn 1 19)) (neg (dn 1 19)) (neg (dn 1 19)) (up 11313 0) (dn 4042566155506811 35)
+    ∷ bar (negsuc 1099511626452) (pos 26) (neg (up 1 0)) (neg (dn 9007199254740991 22)) (dn 3 0) (neg (dn 9007199254740991 22)) (up 63 3) (up 7725 0)
+    ∷ bar (negsuc 1099511626430) (pos 27) (dn 1 19) (up 1 30) (neg (up 1 0)) (neg (dn 9007199254740991 22)) (up 3183 2) (up 9159 1)
+    ∷ bar (negsuc 1099511626395) (pos 28) (dn 9007199254740991 22) (neg (up 1 0)) (up 1 30) (dn 9007199254740991 22) (up 13215 0) (dn 5852491487442371 35)
+    ∷ bar (negsuc 1099511626335) (pos 29) (up 1 30) (neg (dn 1 19)) (dn 3 0) (neg (dn 9007199254740991 22)) (up 5177 0) (up 1 50)
+    ∷ bar (negsuc 1099511626275) (pos 30) (up 1 30) (up 1 30) (dn 3 0) (up 0 0) (up 10541 0) (up 505 2)
+    ∷ bar (negsuc 1099511626215) (pos 31) (dn 3 0) (up 1 30) (dn 1 19) (neg (up 1 30)) (up 6215 1) (dn 2833217095687209 34)
+    ∷ bar (negsuc 1099511626155) (pos 32) (dn 9007199254740991 22) (up 1 30) (up 1 30) (dn 1 19) (up 1 50) (up 3355 0)
+    ∷ bar (negsuc 1099511626095) (pos 33) (neg (dn 9007199254740991 22)) (neg (dn 9007199254740991 22)) (up 0 0) (neg (up 1 0)) (up 9085 1) (up 1 50)
+    ∷ bar (negsuc 1099511626080) (pos 34) (up 0 0) (dn 1 19) (up 1 30) (dn 1 19) (dn 6091715867397189 22) (up 11189 0)
+    ∷ []
+
+run-22-told : told (settings 1 5 64 64 64) run-22
+    ≡ record {
+      events = (12, 1, 6);
+      raw = (negsuc 1099511626719) ∷ (negsuc 1099511626659) ∷ (negsuc 1099511626599) ∷ (negsuc 1099511626572) ∷ (negsuc 1099511626512) ∷ (negsuc 1099511626452) ∷ (negsuc 1099511626430) ∷ (negsuc 1099511626395) ∷ (negsuc 1099511626335) ∷ (negsuc 1099511626275) ∷ (negsuc 1099511626215) ∷ (negsuc 1099511626155) ∷ (negsuc 1099511626095) ∷ (negsuc 1099511626080) ∷ [];
+      ids = map pos (19 ∷ 20 ∷ 23 ∷ 24 ∷ 25 ∷ 26 ∷ 27 ∷ 28 ∷ 29 ∷ 30 ∷ 31 ∷ 32 ∷ 33 ∷ 34 ∷ []);
+      ubi =
+          (bar (negsuc 1099511626155) (pos 32) (dn 9007199254740991 22) (up 1 30) (up 1 30) (dn 1 19) (up 1 50) (up 3355 0), (negsuc 1099511626155) ∷ [])
+          ∷ (bar (negsuc 1099511626095) (pos 33) (neg (dn 9007199254740991 22)) (neg (dn 9007199254740991 22)) (up 0 0) (neg (up 1 0)) (up 9085 1) (up 1 50), (negsuc 1099511626095) ∷ [])
+          ∷ (bar (negsuc 1099511626080) (pos 34) (up 0 0) (dn 1 19) (up 1 30) (dn 1 19) (dn 6091715867397189 22) (up 11189 0), (negsuc 1099511626080) ∷ [])
+          ∷ [];
+      strokes =
+          kept Down (fx (negsuc 1099511626599) G (up 1 30) (dn 3 0) (up 1 30)) (fx (negsuc 1099511626430) D (neg (up 1 0)) (neg (dn 9007199254740991 22)) (neg (dn 9007199254740991 22)))
+          (fx (negsuc 1099511626599) G (up 1 30) (dn 3 0) (up 1 30) ∷ fx (negsuc 1099511626430) D (neg (up 1 0)) (neg (dn 9007199254740991 22)) (neg (dn 9007199254740991 22)) ∷ [])
+          ((negsuc 1099511626719) ∷ (negsuc 1099511626599) ∷ (negsuc 1099511626572) ∷ (negsuc 1099511626430) ∷ (negsuc 1099511626395) ∷ [])
+          ∷ kept Up (fx (negsuc 1099511626430) D (neg (up 1 0)) (neg (dn 9007199254740991 22)) (neg (dn 9007199254740991 22))) (fx (negsuc 1099511626395) G (up 1 30) (dn 9007199254740991 22) (up 1 30))
+          (fx (negsuc 1099511626430) D (neg (up 1 0)) (neg (dn 9007199254740991 22)) (neg (dn 9007199254740991 22)) ∷ fx (negsuc 1099511626395) G (up 1 30) (dn 9007199254740991 22) (up 1 30) ∷ [])
+          ((negsuc 1099511626572) ∷ (negsuc 1099511626430) ∷ (negsuc 1099511626395) ∷ (negsuc 1099511626335) ∷ [])
+          ∷ kept Down (fx (negsuc 1099511626395) G (up 1 30) (dn 9007199254740991 22) (up 1 30)) (fx (negsuc 1099511626215) D (dn 1 19) (neg (up 1 30)) (neg (up 1 30)))
+          (fx (negsuc 1099511626395) G (up 1 30) (dn 9007199254740991 22) (up 1 30) ∷ fx (negsuc 1099511626215) D (dn 1 19) (neg (up 1 30)) (neg (up 1 30)) ∷ [])
+          ((negsuc 1099511626430) ∷ (negsuc 1099511626395) ∷ (negsuc 1099511626335) ∷ (negsuc 1099511626215) ∷ (negsuc 1099511626155) ∷ [])
+          ∷ kept Up (fx (negsuc 1099511626215) D (dn 1 19) (neg (up 1 30)) (neg (up 1 30))) (fx (negsuc 1099511626155) G (up 1 30) (dn 1 19) (up 1 30))
+          (fx (negsuc 1099511626215) D (dn 1 19) (neg (up 1 30)) (neg (up 1 30)) ∷ fx (negsuc 1099511626155) G (up 1 30) (dn 1 19) (up 1 30) ∷ [])
+          ((negsuc 1099511626335) ∷ (negsuc 1099511626215) ∷ (negsuc 1099511626155) ∷ (negsuc 1099511626095) ∷ [])
+          ∷ kept Down (fx (negsuc 1099511626155) G (up 1 30) (dn 1 19) (up 1 30)) (fx (negsuc 1099511626095) D (up 0 0) (neg (up 1 0)) (neg (up 1 0)))
+          (fx (negsuc 1099511626155) G (up 1 30) (dn 1 19) (up 1 30) ∷ fx (negsuc 1099511626095) D (up 0 0) (neg (up 1 0)) (neg (up 1 0)) ∷ [])
+          ((negsuc 1099511626215) ∷ (negsuc 1099511626155) ∷ (negsuc 1099511626095) ∷ (negsuc 1099511626080) ∷ [])
+          ∷ [];
+      measures =
+          measured (up 1 30) (neg (dn 9007199254740991 22)) (up 1 31) (dn 4848657287819437 35) (dn 1431655763 32) (dn 6006000463061293 54) (neg (up 1 1)) (dn 8235153604334619 25) (dn 5955780731706289 76) 5
+          ((negsuc 1099511626659) ∷ (negsuc 1099511626599) ∷ (negsuc 1099511626572) ∷ (negsuc 1099511626512) ∷ (negsuc 1099511626452) ∷ (negsuc 1099511626430) ∷ [])
+          (fake Down (negsuc 1099511626599) (negsuc 1099511626430) (up 1 30) (neg (dn 9007199254740991 22)) (up 1 31) ∷ [])
+          ∷ measured (up 1 30) (neg (dn 9007199254740991 22)) (up 1 31) (up 9441 2) (dn 1073741825 31) (dn 1 1) (neg (up 1 1)) (dn 7205759393726473 24) (neg (dn 1048577 21)) 4
+          ((negsuc 1099511626512) ∷ (negsuc 1099511626452) ∷ (negsuc 1099511626430) ∷ (negsuc 1099511626395) ∷ [])
+          (fake Up (negsuc 1099511626430) (negsuc 1099511626395) (up 1 30) (neg (dn 9007199254740991 22)) (up 1 31) ∷ [])
+          ∷ measured (up 1 30) (neg (up 1 30)) (up 1 31) (up 41363 0) (dn 6004799504092727 106) (up 0 0) (neg (up 1 1)) (dn 900719926103245 20) (neg (dn 9007178638897971 54)) 5
+          ((negsuc 1099511626395) ∷ (negsuc 1099511626335) ∷ (negsuc 1099511626275) ∷ (negsuc 1099511626215) ∷ [])
+          (fake Down (negsuc 1099511626395) (negsuc 1099511626215) (up 1 30) (neg (up 1 30)) (up 1 31) ∷ [])
+          ∷ measured (up 1 30) (neg (up 1 30)) (up 1 31) (up 562949953427527 1) (dn 9007199254740991 52) (up 1 0) (neg (up 1 1)) (up 0 0) (up 0 0) 4
+          ((negsuc 1099511626215) ∷ (negsuc 1099511626155) ∷ [])
+          (fake Up (negsuc 1099511626215) (negsuc 1099511626155) (up 1 30) (neg (up 1 30)) (up 1 31) ∷ [])
+          ∷ measured (up 1 30) (neg (up 1 0)) (up 1073741825 0) (up 562949953430397 1) (up 9007199254740991 1) (up 4503599627370495 2) (neg (up 1 0)) (neg (up 1 31)) (up 0 0) 4
+          ((negsuc 1099511626155) ∷ (negsuc 1099511626095) ∷ [])
+          (fake Down (negsuc 1099511626155) (negsuc 1099511626095) (up 1 30) (neg (up 1 0)) (up 1073741825 0) ∷ [])
+          ∷ [];
+      fxs =
+          fx (negsuc 1099511626430) D (neg (up 1 0)) (neg (dn 9007199254740991 22)) (neg (dn 9007199254740991 22))
+          ∷ fx (negsuc 1099511626395) G (up 1 30) (dn 9007199254740991 22) (up 1 30)
+          ∷ fx (negsuc 1099511626215) D (dn 1 19) (neg (up 1 30)) (neg (up 1 30))
+          ∷ fx (negsuc 1099511626155) G (up 1 30) (dn 1 19) (up 1 30)
+          ∷ fx (negsuc 1099511626095) D (up 0 0) (neg (up 1 0)) (neg (up 1 0))
+          ∷ [];
+      finished = 4;
+      extend = false;
+      zones =
+          zone (negsuc 1099511626599) (negsuc 1099511626095) Down Down (up 1 30) (neg (dn 9007199254740991 22)) (dn 1 22) (up 1 30) (neg (up 1 30)) true
+          (stroke Down (up 1 30) (neg (dn 9007199254740991 22)) (negsuc 1099511626599) (negsuc 1099511626430)
+          ∷ stroke Up (up 1 30) (neg (dn 9007199254740991 22)) (negsuc 1099511626430) (negsuc 1099511626395)
+          ∷ stroke Down (up 1 30) (neg (up 1 30)) (negsuc 1099511626395) (negsuc 1099511626215)
+          ∷ stroke Up (up 1 30) (neg (up 1 30)) (negsuc 1099511626215) (negsuc 1099511626155)
+          ∷ stroke Down (up 1 30) (neg (up 1 0)) (negsuc 1099511626155) (negsuc 1099511626095)
+          ∷ [])
+          ∷ [];
+      finZones =
+          zone (negsuc 1099511626599) (negsuc 1099511626155) Down Up (up 1 30) (neg (dn 9007199254740991 22)) (dn 1 22) (up 1 30) (neg (up 1 30)) true
+          (stroke Down (up 1 30) (neg (dn 9007199254740991 22)) (negsuc 1099511626599) (negsuc 1099511626430)
+          ∷ stroke Up (up 1 30) (neg (dn 9007199254740991 22)) (negsuc 1099511626430) (negsuc 1099511626395)
+          ∷ stroke Down (up 1 30) (neg (up 1 30)) (negsuc 1099511626395) (negsuc 1099511626215)
+          ∷ stroke Up (up 1 30) (neg (up 1 30)) (negsuc 1099511626215) (negsuc 1099511626155)
+          ∷ [])
+          ∷ [];
+      bis =
+          (neither ∷ neither ∷ neither ∷ falls ∷ neither ∷ neither ∷ [])
+          ∷ (neither ∷ neither ∷ neither ∷ neither ∷ neither ∷ [])
+          ∷ (neither ∷ neither ∷ neither ∷ neither ∷ [])
+          ∷ (neither ∷ neither ∷ neither ∷ [])
+          ∷ (neither ∷ neither ∷ [])
+          ∷ (neither ∷ [])
+          ∷ [];
+      answers =
+          answers Medium (dn 3617960178954413 35) false
+          ∷ answers Weak (dn 5756779687439237 35) false
+          ∷ answers Weak (dn 5756779687439237 35) false
+          ∷ answers Medium (up 42941 0) false
+          ∷ answers Medium (up 26741 1) false
+          ∷ answers Strong (up 281474976717693 2) true
+          ∷ answers Strong (up 281474976717693 2) true
+          ∷ answers Medium (up 140737488359153 3) false
+          ∷ answers Medium (up 140737488359153 3) false
+          ∷ answers Medium (dn 4503602532199659 1) false
+          ∷ answers Medium (dn 4503602532199659 1) false
+          ∷ [];
+      ubifx =
+          fx (negsuc 1099511626095) D (up 0 0) (neg (up 1 0)) (neg (up 1 0))
+          ∷ [];
+      unfinished = some (Up, (up 1 30), (neg (up 1 0)), (negsuc 1099511626080), (negsuc 1099511626095), 3, 14, 1, (negsuc 1099511626095));
+      gaps =
+          Gaps.UpNoRatio (neg (dn 1 19)) (dn 3 0) true
+          ∷ Gaps.NoGap
+          ∷ Gaps.NoGap
+          ∷ Gaps.DownNoRatio (neg (dn 1 19)) (up 0 0) true
+          ∷ Gaps.NoGap
+          ∷ Gaps.NoGap
+          ∷ Gaps.UpNoRatio (neg (up 1 0)) (dn 9007199254740991 22) true
+          ∷ Gaps.Down (dn 3 0) (dn 9007199254740991 22) (dn 6004799494772333 22) true
+          ∷ Gaps.NoGap
+          ∷ Gaps.NoGap
+          ∷ Gaps.NoGap
+          ∷ Gaps.DownNoRatio (up 0 0) (dn 1 19) true
+          ∷ Gaps.UpNoRatio (up 0 0) (dn 1 19) false
+          ∷ [];
+    }
+unfolding told run-22 settings bar fx kept measured fake stroke zone answers up dn neg neither rises falls
+run-22-told = refl

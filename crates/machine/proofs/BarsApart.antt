@@ -13,8 +13,9 @@ use Rattle.machine.specs.declared.Mark.{Mark}
 use Rattle.machine.specs.declared.Mark.the-variants.{D, G}
 use Rattle.bars.specs.Merging.{united, contains, mergedUp, mergedDown, settle, removeInclude, mergeIn}
 use Rattle.machine.proofs.Facts.{shape}
-use Rattle.bars.specs.Questions.{isBar, isPrice, question5, question6, question7, question8, leastPrice, mostPrice}
-use Rattle.arith.proofs.FloatOrder.{at-most, le-of, Number, decide, contra, lt-left, lt-right, lt-asym, lt-le}
+use Rattle.bars.specs.Questions.{isBar, isPrice, question5, question6, question7, question8}
+use Rattle.bars.proofs.Prices.{price-number}
+use Rattle.arith.proofs.FloatOrder.{le-of, Number, decide, contra, lt-left, lt-right, lt-asym, lt-le}
 use Rattle.machine.proofs.MergingKeepsFractal.{top-of, of-top, bottom-of, of-bottom}
 use Rattle.arith.proofs.MaxMin.{lt-max-left, min-lt-left}
 use Rattle.machine.proofs.GrownBars.{Grown, first, next, Over, same, more}
@@ -183,13 +184,10 @@ grown-apart k P h z c f w (first c' y p e q) =
 grown-apart k P h z c f w (next c' m y g p e l) = either-joins k z m c' y (grown-apart k P h z m f w g) (tail-eq-of-cons-eq e)
 
 pub bar-numbered : (b : Bar) → T (isBar b) → Numbered b
-unfolding isBar question6 isPrice
+unfolding isBar question6
 bar-numbered b h =
     let p = and-r (question5 b) (question6 b) (and-l (question5 b && question6 b) (question7 b && question8 b) h) in
     let hl = and-r (isPrice (b .«open») && isPrice (b .close)) (isPrice (b .high) && isPrice (b .low)) p in
     let x = and-l (isPrice (b .high)) (isPrice (b .low)) hl in
     let y = and-r (isPrice (b .high)) (isPrice (b .low)) hl in
-    record {
-      high = (at-most leastPrice (b .high) (and-l (le leastPrice (b .high)) (le (b .high) mostPrice) x)) .right;
-      low = (at-most leastPrice (b .low) (and-l (le leastPrice (b .low)) (le (b .low) mostPrice) y)) .right;
-    }
+    record { high = price-number (b .high) x; low = price-number (b .low) y }

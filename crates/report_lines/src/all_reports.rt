@@ -1092,10 +1092,20 @@ fn gap_word(out: &mut Buffer, o: Buffered, kind: u64) -> Buffered {
     if kind == 1 {
         return put(out, o, b"gap up");
     }
+    if kind == 3 {
+        return put(out, o, b"gap up");
+    }
     put(out, o, b"gap down")
 }
 
-// A gap as the listing has it: 0 is none, 1 up, 2 down; then its edges and its ratio.
+fn gap_ratio(out: &mut Buffer, o: Buffered, kind: u64, ratio: f64) -> Buffered {
+    if kind > 2 {
+        return put(out, o, b" none");
+    }
+    spaced_float(out, o, ratio)
+}
+
+// A gap as the listing has it: 0 is none, 1 up, 2 down, 3 and 4 up and down without a ratio; then its edges and its ratio.
 fn gap_line(out: &mut Buffer, o: Buffered, kind: u64, values: [f64; 3], covered: bool) -> Buffered {
     if kind == 0 {
         return put(out, o, b"gap none\n");
@@ -1103,7 +1113,7 @@ fn gap_line(out: &mut Buffer, o: Buffered, kind: u64, values: [f64; 3], covered:
     let o = gap_word(out, o, kind);
     let o = spaced_float(out, o, values[0]);
     let o = spaced_float(out, o, values[1]);
-    let o = spaced_float(out, o, values[2]);
+    let o = gap_ratio(out, o, kind, values[2]);
     let o = space(out, o);
     let o = flag(out, o, covered);
     text::line_end(out, o)

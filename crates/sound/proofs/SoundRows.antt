@@ -2,28 +2,23 @@
 use Prim.Native.Nat.{ℕ, zero, suc, _+_, _*_, _<_}
 use native.Mathlib.Omega.{arith}
 use native.Mathlib.Nat.{add-zero}
-use mathlib.Core.Path.{_≡_, refl, _∙_}
+use mathlib.Core.Path.{_≡_, refl, subst, _∙_}
 use mathlib.Core.Bool.{Bool, true, false, not, _&&_, cond}
 use mathlib.Core.List.{List, [], _∷_}
 use mathlib.Core.Logic.{inl, inr}
 use lib.ListN.{take, drop, getD}
 use lib.Seq.{getD-take, getD-drop}
 use lib.Dec.{T}
-use lib.Ieee.{Float, nan, lt, le}
+use lib.Ieee.{Float, nan, lt, le, neg}
 use lib.Ieee.Fits.{and-l, and-r}
 use Rattle.arith.proofs.FloatOrder.{Number, decide, lt-left, lt-le, le-left, le-right, le-trans, not-lt-le}
-use Rattle.bars.specs.Questions.{leastPrice, mostPrice, isPrice, fromZero, isVolume, question6, question7, question8}
+use Rattle.bars.specs.Questions.{leastPrice, mostPrice, inPriceRange, isPrice, fromZero, isVolume, question6, question7, question8}
+use Rattle.bars.proofs.Prices.{price-above, price-below}
 use Rattle.stores.specs.Stores.{barOf}
-use Rattle.sound.specs.Code.SoundStand.{rawRow, mergedRow}
-use Rattle.arith.proofs.Tests.{yes, no, pair, same}
+use Rattle.sound.specs.Code.SoundStand.{smallerOf, largerOf, sizeOf, aboveZero, ofAnySign, pricesBy, rawRowBy, mergedRowBy, barsBy, rawRow, mergedRow, barsPass}
+use Rattle.arith.proofs.Tests.{yes, no, pair}
 
 -- ---- the four prices
-
-abbrev pub smallerOf : Float → Float → Float
-smallerOf x y = cond (lt x y) x y
-
-abbrev pub largerOf : Float → Float → Float
-largerOf x y = cond (lt x y) y x
 
 -- z is at most both where it is at most the smaller, if the first is no NaN
 smaller-above : (z x y : Float) → Number x → T (le z (smallerOf x y)) → T (le z x) × T (le z y)
@@ -43,53 +38,69 @@ larger-below x y z n h = elim (decide (lt x y)) [
 larger-left : (x y : Float) → Number (largerOf x y) → Number x
 larger-left x y h = elim (decide (lt x y)) [ inl k ↦ lt-left x y k | inr k ↦ rw (no (lt x y) k) at h ]
 
-picked : (P : Float → Type 0) (t : Bool) (x y : Float) → P x → P y → P (cond t x y)
-picked P true x y p q = p
-picked P false x y p q = q
+-- what lets four prices through
+record InRange (o c h l : Float) : Type 0 where
+  at-open : T (inPriceRange o)
+  at-close : T (inPriceRange c)
+  at-high : T (inPriceRange h)
+  at-low : T (inPriceRange l)
+  order : T (le l h)
 
 -- the smallest and the largest price are asked for all four
-pub three-tests : (o c h l : Float)
-    → ((le leastPrice (smallerOf l (smallerOf o c)) && le (largerOf (largerOf o c) h) mostPrice) && le l h) ≡ ((isPrice o && isPrice c) && ((isPrice h && isPrice l) && le l h))
-unfolding isPrice
-three-tests o c h l = same ((le leastPrice least && le most mostPrice) && le l h) ((isPrice o && isPrice c) && ((isPrice h && isPrice l) && le l h)) to from
-  where
-    least : Float
-    least = smallerOf l (smallerOf o c)
+above-ranges : (o c h l : Float) → T (aboveZero o c h l) → InRange o c h l
+unfolding aboveZero inPriceRange
+above-ranges o c h l t =
+    let least = smallerOf l (smallerOf o c) in
+    let most = largerOf (largerOf o c) h in
+    let k = and-r (le leastPrice least && le most mostPrice) (le l h) t in
+    let u = and-l (le leastPrice least && le most mostPrice) (le l h) t in
+    let a = smaller-above leastPrice l (smallerOf o c) (le-left l h k) (and-l (le leastPrice least) (le most mostPrice) u) in
+    let b = larger-below (largerOf o c) h mostPrice (le-right l h k) (and-r (le leastPrice least) (le most mostPrice) u) in
+    let d = smaller-above leastPrice o c (larger-left o c (le-left (largerOf o c) mostPrice (b .0))) (a .1) in
+    let e = larger-below o c mostPrice (le-right leastPrice c (d .1)) (b .0) in
+    record {
+      at-open = pair (le leastPrice o) (le o mostPrice) (d .0) (e .0);
+      at-close = pair (le leastPrice c) (le c mostPrice) (d .1) (e .1);
+      at-high = pair (le leastPrice h) (le h mostPrice) (le-trans leastPrice l h (a .0) k) (b .1);
+      at-low = pair (le leastPrice l) (le l mostPrice) (a .0) (le-trans l h mostPrice k (b .1));
+      order = k;
+    }
 
-    most : Float
-    most = largerOf (largerOf o c) h
+all-prices : (o c h l : Float) → T (isPrice o) → T (isPrice c) → T (isPrice h) → T (isPrice l) → T (le l h) → T (ofAnySign o c h l)
+unfolding ofAnySign
+all-prices o c h l p q r s k =
+    pair (isPrice o && isPrice c) ((isPrice h && isPrice l) && le l h) (pair (isPrice o) (isPrice c) p q) (pair (isPrice h && isPrice l) (le l h) (pair (isPrice h) (isPrice l) r s) k)
 
-    to : T ((le leastPrice least && le most mostPrice) && le l h) → T ((isPrice o && isPrice c) && ((isPrice h && isPrice l) && le l h))
-    to t =
-        let k = and-r (le leastPrice least && le most mostPrice) (le l h) t in
-        let u = and-l (le leastPrice least && le most mostPrice) (le l h) t in
-        let a = smaller-above leastPrice l (smallerOf o c) (le-left l h k) (and-l (le leastPrice least) (le most mostPrice) u) in
-        let b = larger-below (largerOf o c) h mostPrice (le-right l h k) (and-r (le leastPrice least) (le most mostPrice) u) in
-        let d = smaller-above leastPrice o c (larger-left o c (le-left (largerOf o c) mostPrice (b .0))) (a .1) in
-        let e = larger-below o c mostPrice (le-right leastPrice c (d .1)) (b .0) in
-        let x = pair (isPrice o) (isPrice c) (pair (le leastPrice o) (le o mostPrice) (d .0) (e .0)) (pair (le leastPrice c) (le c mostPrice) (d .1) (e .1)) in
-        let y = pair (le leastPrice h) (le h mostPrice) (le-trans leastPrice l h (a .0) k) (b .1) in
-        let z = pair (le leastPrice l) (le l mostPrice) (a .0) (le-trans l h mostPrice k (b .1)) in
-        pair (isPrice o && isPrice c) ((isPrice h && isPrice l) && le l h) x (pair (isPrice h && isPrice l) (le l h) (pair (isPrice h) (isPrice l) y z) k)
+-- prices above zero pass
+above-passes : (o c h l : Float) → T (aboveZero o c h l) → T (ofAnySign o c h l)
+above-passes o c h l t =
+    let a = above-ranges o c h l t in
+    all-prices o c h l (price-above o (a .at-open)) (price-above c (a .at-close)) (price-above h (a .at-high)) (price-above l (a .at-low)) (a .order)
 
-    from : T ((isPrice o && isPrice c) && ((isPrice h && isPrice l) && le l h)) → T ((le leastPrice least && le most mostPrice) && le l h)
-    from t =
-        let u = and-l (isPrice o && isPrice c) ((isPrice h && isPrice l) && le l h) t in
-        let v = and-r (isPrice o && isPrice c) ((isPrice h && isPrice l) && le l h) t in
-        let w = and-l (isPrice h && isPrice l) (le l h) v in
-        let x = and-l (isPrice o) (isPrice c) u in
-        let y = and-r (isPrice o) (isPrice c) u in
-        let a = picked above (lt o c) o c (and-l (le leastPrice o) (le o mostPrice) x) (and-l (le leastPrice c) (le c mostPrice) y) in
-        let b = picked below (lt o c) c o (and-r (le leastPrice c) (le c mostPrice) y) (and-r (le leastPrice o) (le o mostPrice) x) in
-        let d = picked above (lt l (smallerOf o c)) l (smallerOf o c) (and-l (le leastPrice l) (le l mostPrice) (and-r (isPrice h) (isPrice l) w)) a in
-        let e = picked below (lt (largerOf o c) h) h (largerOf o c) (and-r (le leastPrice h) (le h mostPrice) (and-l (isPrice h) (isPrice l) w)) b in
-        pair (le leastPrice least && le most mostPrice) (le l h) (pair (le leastPrice least) (le most mostPrice) d e) (and-r (isPrice h && isPrice l) (le l h) v)
-      where
-        above : Float → Type 0
-        above p = T (le leastPrice p)
+-- ---- sizes
 
-        below : Float → Type 0
-        below p = T (le p mostPrice)
+size-price : (x : Float) → T (inPriceRange (sizeOf x)) → T (isPrice x)
+unfolding sizeOf
+size-price x h = elim (decide (lt x (neg x))) [
+  | inl k ↦ price-below x (rw (yes (lt x (neg x)) k) at h)
+  | inr k ↦ price-above x (rw (no (lt x (neg x)) k) at h)
+]
+
+-- where the larger and the smaller of two are in the range, so are both
+both-ranges : (x y : Float) → T (inPriceRange (largerOf x y)) → T (inPriceRange (smallerOf x y)) → T (inPriceRange x) × T (inPriceRange y)
+both-ranges x y g s = elim (decide (lt x y)) [
+  | inl k ↦ (rw (yes (lt x y) k) at s, rw (yes (lt x y) k) at g)
+  | inr k ↦ (rw (no (lt x y) k) at g, rw (no (lt x y) k) at s)
+]
+
+-- prices whose sizes pass do
+pub sizes-pass : (o c h l : Float) → T (aboveZero (sizeOf o) (sizeOf c) (largerOf (sizeOf h) (sizeOf l)) (smallerOf (sizeOf h) (sizeOf l)) && le l h) → T (ofAnySign o c h l)
+sizes-pass o c h l t =
+    let most = largerOf (sizeOf h) (sizeOf l) in
+    let least = smallerOf (sizeOf h) (sizeOf l) in
+    let a = above-ranges (sizeOf o) (sizeOf c) most least (and-l (aboveZero (sizeOf o) (sizeOf c) most least) (le l h) t) in
+    let b = both-ranges (sizeOf h) (sizeOf l) (a .at-high) (a .at-low) in
+    all-prices o c h l (size-price o (a .at-open)) (size-price c (a .at-close)) (size-price h (b .0)) (size-price l (b .1)) (and-r (aboveZero (sizeOf o) (sizeOf c) most least) (le l h) t)
 
 -- ---- rows
 
@@ -106,25 +117,55 @@ merged-order false b l z = refl
 merged-order true false l z = refl
 merged-order true true l z = refl
 
-module _ (p : List Float) (r a v x y : Bool) (e : r ≡ (a && v)) (g : v ≡ (x && y))
-    (f : a ≡ ((isPrice (getD p 0 nan) && isPrice (getD p 1 nan)) && ((isPrice (getD p 2 nan) && isPrice (getD p 3 nan)) && le (getD p 3 nan) (getD p 2 nan)))) where
-  pub raw-row-is : x ≡ isVolume (getD p 4 nan) → y ≡ isVolume (getD p 5 nan) → r ≡ rawRow p
-  unfolding rawRow barOf question6 question7 question8
-  raw-row-is h k =
-      e ∙ (λ j. f j && (g ∙ (λ i. h i && k i)) j)
-      ∙ raw-order (isPrice (getD p 0 nan) && isPrice (getD p 1 nan)) (isPrice (getD p 2 nan) && isPrice (getD p 3 nan)) (le (getD p 3 nan) (getD p 2 nan)) (isVolume (getD p 4 nan) && isVolume (getD p 5 nan))
+-- a row asked with prices of any sign is the row's own question
+pub raw-any : (p : List Float) → rawRowBy true p ≡ rawRow p
+unfolding rawRowBy pricesBy ofAnySign rawRow barOf question6 question7 question8
+raw-any p = raw-order (isPrice (getD p 0 nan) && isPrice (getD p 1 nan)) (isPrice (getD p 2 nan) && isPrice (getD p 3 nan)) (le (getD p 3 nan) (getD p 2 nan)) (isVolume (getD p 4 nan) && isVolume (getD p 5 nan))
 
-  pub merged-row-is : x ≡ fromZero (getD p 4 nan) → y ≡ fromZero (getD p 5 nan) → r ≡ mergedRow p
-  unfolding mergedRow barOf question6 question8
-  merged-row-is h k =
-      e ∙ (λ j. f j && (g ∙ (λ i. h i && k i)) j)
-      ∙ merged-order (isPrice (getD p 0 nan) && isPrice (getD p 1 nan)) (isPrice (getD p 2 nan) && isPrice (getD p 3 nan)) (le (getD p 3 nan) (getD p 2 nan)) (fromZero (getD p 4 nan) && fromZero (getD p 5 nan))
+pub merged-any : (p : List Float) → mergedRowBy true p ≡ mergedRow p
+unfolding mergedRowBy pricesBy ofAnySign mergedRow barOf question6 question8
+merged-any p = merged-order (isPrice (getD p 0 nan) && isPrice (getD p 1 nan)) (isPrice (getD p 2 nan) && isPrice (getD p 3 nan)) (le (getD p 3 nan) (getD p 2 nan)) (fromZero (getD p 4 nan) && fromZero (getD p 5 nan))
+
+pub bars-any : (p : List Float) → barsBy true p ≡ barsPass p
+unfolding barsBy barsPass
+bars-any p = λ i. merged-any (take 6 p) i && (merged-any (take 6 (drop 6 p)) i && merged-any (take 6 (drop 12 p)) i)
+
+-- a row that passes above zero passes
+and-under : (a b v : Bool) → (T a → T b) → T (a && v) → T (b && v)
+and-under a b v f t = pair b v (f (and-l a v t)) (and-r a v t)
+
+pub raw-above : (p : List Float) → T (rawRowBy false p) → T (rawRow p)
+unfolding rawRowBy pricesBy
+raw-above p t =
+    let o = getD p 0 nan in
+    let c = getD p 1 nan in
+    let h = getD p 2 nan in
+    let l = getD p 3 nan in
+    subst T (raw-any p) (and-under (aboveZero o c h l) (ofAnySign o c h l) (isVolume (getD p 4 nan) && isVolume (getD p 5 nan)) (above-passes o c h l) t)
+
+pub merged-above : (p : List Float) → T (mergedRowBy false p) → T (mergedRow p)
+unfolding mergedRowBy pricesBy
+merged-above p t =
+    let o = getD p 0 nan in
+    let c = getD p 1 nan in
+    let h = getD p 2 nan in
+    let l = getD p 3 nan in
+    subst T (merged-any p) (and-under (aboveZero o c h l) (ofAnySign o c h l) (fromZero (getD p 4 nan) && fromZero (getD p 5 nan)) (above-passes o c h l) t)
+
+pub bars-above : (p : List Float) → T (barsBy false p) → T (barsPass p)
+unfolding barsBy barsPass
+bars-above p t =
+    let by : ℕ → Bool = λ k. mergedRowBy false (take 6 (drop k p)) in
+    let is : ℕ → Bool = λ k. mergedRow (take 6 (drop k p)) in
+    let u = and-r (by 0) (by 6 && by 12) t in
+    pair (is 0) (is 6 && is 12) (merged-above (take 6 p) (and-l (by 0) (by 6 && by 12) t))
+    (pair (is 6) (is 12) (merged-above (take 6 (drop 6 p)) (and-l (by 6) (by 12) u)) (merged-above (take 6 (drop 12 p)) (and-r (by 6) (by 12) u)))
 
 -- the row of a bar that stands from place k on in a longer one
-pub row-from : (p : List Float) (k : ℕ)
-    → mergedRow (getD p k nan ∷ getD p (k + 1) nan ∷ getD p (k + 2) nan ∷ getD p (k + 3) nan ∷ getD p (k + 4) nan ∷ getD p (k + 5) nan ∷ []) ≡ mergedRow (take 6 (drop k p))
-unfolding mergedRow barOf question6 question8
-row-from p k = rw (at 0 (omega arith), add-zero k, at 1 (omega arith), at 2 (omega arith), at 3 (omega arith), at 4 (omega arith), at 5 (omega arith)) refl
+pub row-from : (any : Bool) (p : List Float) (k : ℕ)
+    → mergedRowBy any (getD p k nan ∷ getD p (k + 1) nan ∷ getD p (k + 2) nan ∷ getD p (k + 3) nan ∷ getD p (k + 4) nan ∷ getD p (k + 5) nan ∷ []) ≡ mergedRowBy any (take 6 (drop k p))
+unfolding mergedRowBy
+row-from any p k = rw (at 0 (omega arith), add-zero k, at 1 (omega arith), at 2 (omega arith), at 3 (omega arith), at 4 (omega arith), at 5 (omega arith)) refl
   where
     at : (i : ℕ) → i < 6 → getD (take 6 (drop k p)) i nan ≡ getD p (k + i) nan
     at i h = getD-take 6 (drop k p) i nan h ∙ getD-drop k p i nan

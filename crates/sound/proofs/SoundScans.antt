@@ -12,7 +12,7 @@ use lib.Signed.{ltZ, leZ}
 use lib.Dec.{T, not-T, T-not}
 use lib.Ieee.{Float}
 use lib.Ieee.Fits.{and-l, and-r}
-use Rattle.arith.proofs.Tests.{and-assoc, and-true, holds, fails, pair, same}
+use Rattle.arith.proofs.Tests.{and-assoc, and-true, yes, holds, fails, pair, same}
 use Rattle.bars.specs.Lists.{every}
 use Rattle.stores.specs.Code.StoreRows.{rising}
 use Rattle.bars.specs.Questions.{firstTime, lastTime}
@@ -55,6 +55,24 @@ module _ {A : Type 0} (p : A → Bool) where
   every-at [] i z h k = absurd (omega arith)
   every-at (a ∷ v) zero z h k = and-l (p a) (every p v) h
   every-at (a ∷ v) (suc i) z h k = every-at v i z (and-r (p a) (every p v) h) (omega arith)
+
+-- a scan that is asked in two ways: by a test that only lets through what passes, and where that fails by the whole test
+module _ {A : Type 0} (f : Bool → A → Bool) (p : A → Bool) (above : (x : A) → T (f false x) → T (p x)) (any : (x : A) → f true x ≡ p x) where
+  every-above : (l : List A) → T (every (f false) l) → T (every p l)
+  unfolding every
+  every-above [] h = tt
+  every-above (x ∷ l) h = pair (p x) (every p l) (above x (and-l (f false x) (every (f false) l) h)) (every-above l (and-r (f false x) (every (f false) l) h))
+
+  every-any : (l : List A) → every (f true) l ≡ every p l
+  unfolding every
+  every-any [] = refl
+  every-any (x ∷ l) = λ i. any x i && every-any l i
+
+  pub above-all : (l : List A) (r : Bool) → r ≡ every (f false) l → r ≡ true → true ≡ every p l
+  above-all l r e t = sym (yes (every p l) (every-above l (holds (sym e ∙ t))))
+
+  pub any-all : (l : List A) (r : Bool) → r ≡ every (f true) l → r ≡ every p l
+  any-all l r e = e ∙ every-any l
 
 -- ---- times that rise
 

@@ -2,27 +2,27 @@
 // branch, and looks only at the columns that its clause speaks of. The scans of times stop at the
 // first that fails: without a branch, a compare of two i64s takes several instructions.
 ghost use mathlib.Core.Path.{_≡_};
-ghost use mathlib.Core.Bool.{false, _&&_, cond};
+ghost use mathlib.Core.Bool.{true, false, _&&_, cond};
 ghost use mathlib.Core.List.{[], _∷_, map};
 ghost use Prim.Native.Nat.{_+_, _-_, _≤_, _<_, min};
 ghost use lib.IntN.{pos};
 ghost use lib.ListN.{length, take, drop, getD};
 ghost use lib.Signed.{ltZ};
 ghost use lib.Dec.{T, leb};
-ghost use lib.Ieee.{nan, lt, le};
+ghost use lib.Ieee.{nan, lt};
 ghost use Rattle.bars.specs.Lists.{every, last};
-ghost use Rattle.bars.specs.Questions.{isPrice};
 ghost use Rattle.stores.specs.Code.StoreRows.{rising, placeOf};
 ghost use Rattle.machine.specs.Soundness.{rises, sameTime, isSetting, endsOn};
 ghost use Rattle.strokes.specs.StateRead.{rawSized, mergedSized, fractalSized, total};
 ghost use Rattle.strokes.specs.Lent.{fractalsBefore, before};
-ghost use Rattle.sound.specs.Code.SoundStand.{inTime, timesPass, rawRow, mergedRow, smallCount, differ, topRow, alternating, isReal, endsHeld, middleTimes, stampsPass, barsPass, fractalColumns, atPlace, isTime, namedRows, newestRow, numbersPass, rawColumns, unfinishedColumns, strokeColumns, strokesColumns, frontColumns};
+ghost use Rattle.sound.specs.Code.SoundStand.{inTime, timesPass, sizeOf, aboveZero, ofAnySign, pricesBy, rawRowBy, mergedRowBy, rawRow, mergedRow, smallCount, differ, topRow, alternating, isReal, endsHeld, middleTimes, stampsPass, barsBy, barsPass, fractalColumns, atPlace, isTime, namedRows, newestRow, numbersPass, rawColumns, unfinishedColumns, strokeColumns, strokesColumns, frontColumns};
 ghost use Rattle.sound.specs.FreshStand.{columnsAgree};
 ghost use Rattle.sound.specs.StandSound.{storesSound};
 ghost use Rattle.stores.specs.Lent.{rawBefore, mergedBefore};
 use super::fresh_stand::rooms_fit;
 use bars::both;
 use bars::from_zero;
+use bars::is_price;
 use bars::is_volume;
 use strokes::Rooms;
 use strokes::Stand;
@@ -103,12 +103,19 @@ fn larger(x: f64, y: f64) -> f64
     x
 }
 
-// Questions 6 and 8 of a bar. The smallest price alone is asked whether it is too small, and the
+// The size of x, by one pick. Of minus zero it is minus zero.
+fn size(x: f64) -> f64
+    ensures { λ r. ⌜ r ≡ sizeOf x ⌝ }
+{
+    larger(x, -x)
+}
+
+// Questions 6 and 8 of a bar whose prices lie above zero. The smallest price alone is asked whether it is too small, and the
 // largest whether it is too large: the processor picks one of two floats by a single instruction.
 // No NaN is lost on the way: one in open comes out of `larger` and one in close out of `smaller`,
 // high and low do not take its place, and a NaN in high or low fails the last test.
-fn prices_pass(open: f64, close: f64, high: f64, low: f64) -> bool
-    ensures { λ r. ⌜ r ≡ ((isPrice «open» && isPrice close) && ((isPrice high && isPrice low) && le low high)) ⌝ }
+fn above_zero(open: f64, close: f64, high: f64, low: f64) -> bool
+    ensures { λ r. ⌜ r ≡ aboveZero «open» close high low ⌝ }
 {
     let smallest = smaller(low, smaller(open, close));
     let largest = larger(larger(open, close), high);
@@ -118,39 +125,104 @@ fn prices_pass(open: f64, close: f64, high: f64, low: f64) -> bool
     )
 }
 
-fn raw_row(p: [f64; 6]) -> bool
-    ensures { λ r. ⌜ r ≡ rawRow p ⌝ }
+// Questions 6 and 8 of a bar, price by price.
+fn each_price_passes(open: f64, close: f64, high: f64, low: f64) -> bool
+    ensures { λ r. ⌜ r ≡ ofAnySign «open» close high low ⌝ }
 {
     both(
-        prices_pass(p[0], p[1], p[2], p[3]),
+        both(is_price(open), is_price(close)),
+        both(both(is_price(high), is_price(low)), low <= high),
+    )
+}
+
+// Questions 6 and 8 of a bar. Prices of any sign but zero pass by their sizes.
+fn any_sign_passes(open: f64, close: f64, high: f64, low: f64) -> bool
+    ensures { λ r. ⌜ r ≡ ofAnySign «open» close high low ⌝ }
+{
+    let o = size(open);
+    let c = size(close);
+    let h = size(high);
+    let l = size(low);
+    if both(above_zero(o, c, larger(h, l), smaller(h, l)), low <= high) {
+        return true;
+    }
+    each_price_passes(open, close, high, low)
+}
+
+// Questions 6 and 8 of a bar, as a scan asks them. Most bars lie above zero, so a scan first lets only these through, which takes
+// no branch, and asks prices of any sign where one row fails.
+fn prices_pass(any_sign: bool, open: f64, close: f64, high: f64, low: f64) -> bool
+    ensures { λ r. ⌜ r ≡ pricesBy «any_sign» «open» close high low ⌝ }
+{
+    if any_sign {
+        return any_sign_passes(open, close, high, low);
+    }
+    above_zero(open, close, high, low)
+}
+
+fn raw_row(any_sign: bool, p: [f64; 6]) -> bool
+    ensures { λ r. ⌜ r ≡ rawRowBy «any_sign» p ⌝ }
+{
+    both(
+        prices_pass(any_sign, p[0], p[1], p[2], p[3]),
         both(is_volume(p[4]), is_volume(p[5])),
     )
 }
 
 // A merged bar's prices, its vol and its amount.
-fn bar_passes(open: f64, close: f64, high: f64, low: f64, vol: f64, amount: f64) -> bool
-    ensures { λ r. ⌜ r ≡ mergedRow («open» ∷ close ∷ high ∷ low ∷ vol ∷ amount ∷ []) ⌝ }
+fn bar_passes(
+    any_sign: bool,
+    open: f64,
+    close: f64,
+    high: f64,
+    low: f64,
+    vol: f64,
+    amount: f64,
+) -> bool
+    ensures { λ r. ⌜ r ≡ mergedRowBy «any_sign» («open» ∷ close ∷ high ∷ low ∷ vol ∷ amount ∷ []) ⌝ }
 {
     both(
-        prices_pass(open, close, high, low),
+        prices_pass(any_sign, open, close, high, low),
         both(from_zero(vol), from_zero(amount)),
     )
 }
 
-fn merged_row(p: [f64; 6]) -> bool
-    ensures { λ r. ⌜ r ≡ mergedRow p ⌝ }
+fn merged_row(any_sign: bool, p: [f64; 6]) -> bool
+    ensures { λ r. ⌜ r ≡ mergedRowBy «any_sign» p ⌝ }
 {
-    bar_passes(p[0], p[1], p[2], p[3], p[4], p[5])
+    bar_passes(any_sign, p[0], p[1], p[2], p[3], p[4], p[5])
 }
 
-pub fn raw_rows_pass(ps: &[[f64; 6]]) -> bool
-    ensures { λ r. ⌜ r ≡ every rawRow (now (ps .entry)) ⌝ }
+fn raw_rows(any_sign: bool, ps: &[[f64; 6]]) -> bool
+    ensures { λ r. ⌜ r ≡ every (rawRowBy «any_sign») (now (ps .entry)) ⌝ }
 {
     let mut ok = true;
     let mut i: usize = 0;
     while i < ps.len() {
         let p = ps[i];
-        ok = both(ok, raw_row(p));
+        ok = both(ok, raw_row(any_sign, p));
+        i += 1;
+    }
+    ok
+}
+
+pub fn raw_rows_pass(ps: &[[f64; 6]]) -> bool
+    ensures { λ r. ⌜ r ≡ every rawRow (now (ps .entry)) ⌝ }
+{
+    if raw_rows(false, ps) {
+        return true;
+    }
+    raw_rows(true, ps)
+}
+
+fn merged_rows(any_sign: bool, ps: &[[f64; 6]]) -> bool
+    ensures { λ r. ⌜ r ≡ every (mergedRowBy «any_sign») (now (ps .entry)) ⌝ }
+{
+    let mut ok = true;
+    let mut i: usize = 0;
+    while i < ps.len() {
+        let p = ps[i];
+        ok = both(ok, merged_row(any_sign, p));
         i += 1;
     }
     ok
@@ -159,14 +231,10 @@ pub fn raw_rows_pass(ps: &[[f64; 6]]) -> bool
 pub fn merged_rows_pass(ps: &[[f64; 6]]) -> bool
     ensures { λ r. ⌜ r ≡ every mergedRow (now (ps .entry)) ⌝ }
 {
-    let mut ok = true;
-    let mut i: usize = 0;
-    while i < ps.len() {
-        let p = ps[i];
-        ok = both(ok, merged_row(p));
-        i += 1;
+    if merged_rows(false, ps) {
+        return true;
     }
-    ok
+    merged_rows(true, ps)
 }
 
 // No merged bar has more than 101 elements.
@@ -303,30 +371,53 @@ fn stamps_pass(fs: &[[i64; 6]]) -> bool
 }
 
 // The prices of a fractal's three bars.
-fn three_bars(p: [f64; 18]) -> bool
-    ensures { λ r. ⌜ r ≡ barsPass p ⌝ }
+fn three_bars(any_sign: bool, p: [f64; 18]) -> bool
+    ensures { λ r. ⌜ r ≡ barsBy «any_sign» p ⌝ }
 {
     both(
-        bar_passes(p[0], p[1], p[2], p[3], p[4], p[5]),
+        bar_passes(any_sign, p[0], p[1], p[2], p[3], p[4], p[5]),
         both(
-            bar_passes(p[6], p[7], p[8], p[9], p[10], p[11]),
-            bar_passes(p[12], p[13], p[14], p[15], p[16], p[17]),
+            bar_passes(any_sign, p[6], p[7], p[8], p[9], p[10], p[11]),
+            bar_passes(any_sign, p[12], p[13], p[14], p[15], p[16], p[17]),
         ),
     )
+}
+
+// With three bars to a row one loop for both ways is compiled with a branch in it, so each way has its own.
+fn fractals_above_zero(fp: &[[f64; 18]]) -> bool
+    ensures { λ r. ⌜ r ≡ every (barsBy false) (now (fp .entry)) ⌝ }
+{
+    let mut ok = true;
+    let mut i: usize = 0;
+    while i < fp.len() {
+        let p = fp[i];
+        ok = both(ok, three_bars(false, p));
+        i += 1;
+    }
+    ok
+}
+
+fn fractals_of_any_sign(fp: &[[f64; 18]]) -> bool
+    ensures { λ r. ⌜ r ≡ every (barsBy true) (now (fp .entry)) ⌝ }
+{
+    let mut ok = true;
+    let mut i: usize = 0;
+    while i < fp.len() {
+        let p = fp[i];
+        ok = both(ok, three_bars(true, p));
+        i += 1;
+    }
+    ok
 }
 
 // A fractal holds three merged bars of its own, which later merging does not change.
 fn bars_pass(fp: &[[f64; 18]]) -> bool
     ensures { λ r. ⌜ r ≡ every barsPass (now (fp .entry)) ⌝ }
 {
-    let mut ok = true;
-    let mut i: usize = 0;
-    while i < fp.len() {
-        let p = fp[i];
-        ok = both(ok, three_bars(p));
-        i += 1;
+    if fractals_above_zero(fp) {
+        return true;
     }
-    ok
+    fractals_of_any_sign(fp)
 }
 
 fn fractals_pass(fs: &[[i64; 6]], fp: &[[f64; 18]]) -> bool

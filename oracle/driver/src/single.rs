@@ -1,7 +1,7 @@
 //! Single functions of the Rust, asked by lines of bits.
 use crate::text::{self, Fields, bits, flag, guarded, joined};
 use czsc_core::analyze::utils::{
-    check_fx, check_gap_info, get_zs_seq, is_bis_down, is_bis_up, remove_include,
+    GapInfo, check_fx, check_gap_info, get_zs_seq, is_bis_down, is_bis_up, remove_include,
 };
 use czsc_core::objects::{
     bar::{NewBar, RawBar},
@@ -154,13 +154,22 @@ pub fn gap_answers(bars: &[RawBar]) -> Vec<String> {
                     "{kind} {} {} {} {covered}",
                     bits(gap.low),
                     bits(gap.high),
-                    bits(gap.delta)
+                    ratio(gap)
                 )
             }
         });
     let answers: Vec<String> = answers.collect();
     assert!(rest.next().is_none(), "a gap belongs to no pair");
     answers
+}
+
+/// The Rust divides by the lower edge of any gap. Request three gives no ratio where that edge is zero or less.
+fn ratio(gap: &GapInfo) -> String {
+    if gap.low <= 0.0 {
+        "none".to_string()
+    } else {
+        bits(gap.delta)
+    }
 }
 
 /// Strokes from `up|down HIGH LOW SDT EDT`. Both fractals take HIGH and LOW, so that the stroke's high and

@@ -47,16 +47,21 @@ fn ask_settings(numbers: &[u64]) -> Option<u8> {
     }
 }
 
-/// The first of questions 5 to 9 that the bar fails, written from document 01: the Rust asks none of them.
+/// Question 6 for one price, as request three has it: plain zero, or a magnitude from 2^-20 to 2^30.
+fn price_allowed(p: f64) -> bool {
+    let plain_zero = p == 0.0 && p.is_sign_positive();
+    plain_zero || (2f64.powi(-20)..=2f64.powi(30)).contains(&p.abs())
+}
+
+/// The first of questions 5 to 9 that the bar fails, written from documents 01 and 02: the Rust asks none of them.
 fn ask_bar(time: i64, bar: &RawBar, last: Option<i64>) -> Option<u8> {
     let edge = 1i64 << 40;
-    let price = |p: f64| (2f64.powi(-20)..=2f64.powi(30)).contains(&p);
     let amount = |v: f64| (0.0..=2f64.powi(50)).contains(&v) && v.is_sign_positive();
     if !(-edge..=edge).contains(&time) {
         Some(5)
     } else if ![bar.open, bar.close, bar.high, bar.low]
         .into_iter()
-        .all(price)
+        .all(price_allowed)
     {
         Some(6)
     } else if !(amount(bar.vol) && amount(bar.amount)) {

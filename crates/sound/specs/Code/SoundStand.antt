@@ -8,9 +8,9 @@ use lib.ListN.{length, take, drop, getD}
 use lib.IntN.{ℤ, pos}
 use lib.Signed.{leZ}
 use lib.Dec.{leb, ltb, eqb}
-use lib.Ieee.{Float, nan, lt, eq}
+use lib.Ieee.{Float, nan, lt, le, eq, neg}
 use Rattle.bars.specs.Lists.{last, every, some-of}
-use Rattle.bars.specs.Questions.{firstTime, lastTime, question6, question7, question8, fromZero}
+use Rattle.bars.specs.Questions.{firstTime, lastTime, leastPrice, mostPrice, isPrice, fromZero, isVolume, question6, question7, question8}
 use Rattle.stores.specs.Stores.{RawStore, MergedStore, zipWith, barOf}
 use Rattle.strokes.specs.declared.Stand.{Stand}
 use Rattle.machine.specs.Soundness.{settingsSound, rises, sameTime, endsOn}
@@ -48,6 +48,42 @@ unfoldable pub mergedRow : List Float → Bool
 unfolding barOf question6 question8 fromZero
 mergedRow p =
     question6 (barOf (pos 0) (pos 0) p) && (question8 (barOf (pos 0) (pos 0) p) && (fromZero (getD p 4 nan) && fromZero (getD p 5 nan)))
+
+-- ---- rows of prices, as the scans ask them
+
+abbrev pub smallerOf : Float → Float → Float
+smallerOf x y = cond (lt x y) x y
+
+abbrev pub largerOf : Float → Float → Float
+largerOf x y = cond (lt x y) y x
+
+unfoldable pub sizeOf : Float → Float
+unfolding lt neg
+sizeOf x = largerOf x (neg x)
+
+-- questions 6 and 8 of open, close, high and low above zero: by the smallest price and the largest
+unfoldable pub aboveZero : Float → Float → Float → Float → Bool
+unfolding lt le leastPrice mostPrice
+aboveZero o c h l = (le leastPrice (smallerOf l (smallerOf o c)) && le (largerOf (largerOf o c) h) mostPrice) && le l h
+
+-- questions 6 and 8
+unfoldable pub ofAnySign : Float → Float → Float → Float → Bool
+unfolding isPrice le
+ofAnySign o c h l = (isPrice o && isPrice c) && ((isPrice h && isPrice l) && le l h)
+
+-- true: of any sign, false: above zero alone
+unfoldable pub pricesBy : Bool → Float → Float → Float → Float → Bool
+unfolding ofAnySign aboveZero
+pricesBy true o c h l = ofAnySign o c h l
+pricesBy false o c h l = aboveZero o c h l
+
+unfoldable pub rawRowBy : Bool → List Float → Bool
+unfolding pricesBy isVolume
+rawRowBy any p = pricesBy any (getD p 0 nan) (getD p 1 nan) (getD p 2 nan) (getD p 3 nan) && (isVolume (getD p 4 nan) && isVolume (getD p 5 nan))
+
+unfoldable pub mergedRowBy : Bool → List Float → Bool
+unfolding pricesBy fromZero
+mergedRowBy any p = pricesBy any (getD p 0 nan) (getD p 1 nan) (getD p 2 nan) (getD p 3 nan) && (fromZero (getD p 4 nan) && fromZero (getD p 5 nan))
 
 -- ---- elements
 
@@ -140,6 +176,10 @@ stampsPass t = inTime (getD t 0 (pos 0)) && (inTime (getD t 1 (pos 0)) && inTime
 unfoldable pub barsPass : List Float → Bool
 unfolding mergedRow
 barsPass p = mergedRow (take 6 p) && (mergedRow (take 6 (drop 6 p)) && mergedRow (take 6 (drop 12 p)))
+
+unfoldable pub barsBy : Bool → List Float → Bool
+unfolding mergedRowBy
+barsBy any p = mergedRowBy any (take 6 p) && (mergedRowBy any (take 6 (drop 6 p)) && mergedRowBy any (take 6 (drop 12 p)))
 
 unfoldable pub fractalColumns : List (List ℤ) → List (List Float) → Bool
 unfolding rises every middleTimes stampsPass barsPass alternating topRow endsHeld

@@ -12,6 +12,12 @@ enum-told-2 c = search needs
 enum-told-3 : tie.Need-enum-told-3
 enum-told-3 c = search needs
 
+enum-told-4 : tie.Need-enum-told-4
+enum-told-4 c = search needs
+
+enum-told-5 : tie.Need-enum-told-5
+enum-told-5 c = search needs
+
 returns : tie.Need-returns
 unfolding gapNumber
 returns c = search needs
@@ -24,6 +30,14 @@ returns-3 : tie.Need-returns-3
 unfolding gapNumber
 returns-3 c = search needs
 
+returns-4 : tie.Need-returns-4
+unfolding gapNumber
+returns-4 c = search needs
+
+returns-5 : tie.Need-returns-5
+unfolding gapNumber
+returns-5 c = search needs
+
 pub gap-number-spec : {M : Type 1} → statement M
 gap-number-spec =
-    tie.close (tie.spec enum-told enum-told-2 enum-told-3 returns returns-2 returns-3)
+    tie.close (tie.spec enum-told enum-told-2 enum-told-3 enum-told-4 enum-told-5 returns returns-2 returns-3 returns-4 returns-5)

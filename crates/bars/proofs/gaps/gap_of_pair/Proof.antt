@@ -33,22 +33,22 @@ array-read-b-low c = search needs
 covered-up-requires : tie.Need-covered-up-requires
 covered-up-requires c κs = search needs
 
-ratio-requires : tie.Need-ratio-requires
-ratio-requires c κs = search needs
+up-gap-requires : tie.Need-up-gap-requires
+up-gap-requires c κs = search needs
 
 returns : tie.Need-returns
 unfolding rowHigh rowLow
-returns c = let s = c .before .before .before .before .before .args in let ps = s .prices .now in gap-up (getD ps (s .i) []) (getD ps (s .j) []) (drop (s .j) (take (s .n) ps)) _ _ (c .before .before .if1 .taken) (c .ratio .ensures) (c .before .covered-up .ensures)
+returns c = let s = c .before .before .before .before .before .args in let ps = s .prices .now in gap-up (getD ps (s .i) []) (getD ps (s .j) []) (drop (s .j) (take (s .n) ps)) _ _ (c .before .before .if1 .taken) (c .before .covered-up .ensures) (c .up-gap .ensures)
 
 covered-down-requires : tie.Need-covered-down-requires
 covered-down-requires c κs = search needs
 
-ratio-requires-2 : tie.Need-ratio-requires-2
-ratio-requires-2 c κs = search needs
+down-gap-requires : tie.Need-down-gap-requires
+down-gap-requires c κs = search needs
 
 returns-2 : tie.Need-returns-2
 unfolding rowHigh rowLow
-returns-2 c = let s = c .before .before .before .before .before .before .args in let ps = s .prices .now in gap-down (getD ps (s .i) []) (getD ps (s .j) []) (drop (s .j) (take (s .n) ps)) _ _ (c .before .before .before .if1 .left) (c .before .before .if2 .taken) (c .ratio2 .ensures) (c .before .covered-down .ensures)
+returns-2 c = let s = c .before .before .before .before .before .before .args in let ps = s .prices .now in gap-down (getD ps (s .i) []) (getD ps (s .j) []) (drop (s .j) (take (s .n) ps)) _ _ (c .before .before .before .if1 .left) (c .before .before .if2 .taken) (c .before .covered-down .ensures) (c .down-gap .ensures)
 
 returns-3 : tie.Need-returns-3
 unfolding rowHigh rowLow
@@ -67,9 +67,9 @@ gap-of-pair-spec =
     array-read-b-high
     array-read-b-low
     covered-up-requires
-    ratio-requires
+    up-gap-requires
     returns
     covered-down-requires
-    ratio-requires-2
+    down-gap-requires
     returns-2
     returns-3)

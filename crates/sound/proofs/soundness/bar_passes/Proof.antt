@@ -1,4 +1,6 @@
-use Rattle.sound.proofs.SoundRows.{merged-row-is}
+use mathlib.Core.Bool.{_&&_}
+use mathlib.Core.Path.{_∙_}
+use Rattle.sound.specs.Code.SoundStand.{mergedRowBy}
 use borrow.Author.Needs.{needs}
 use Rattle.sound.proofs.soundness.bar_passes.Statement.{statement}
 use Rattle.sound.proofs.soundness.bar_passes.Tie as tie
@@ -19,7 +21,8 @@ both-requires-2 : tie.Need-both-requires-2
 both-requires-2 c κs = search needs
 
 returns : tie.Need-returns
-returns c = merged-row-is _ _ _ _ _ _ (c .both2 .ensures) (c .before .both .ensures) (c .before .before .before .before .prices-pass .ensures) (c .before .before .before .from-zero .ensures) (c .before .before .from-zero2 .ensures)
+unfolding mergedRowBy
+returns c = c .both2 .ensures ∙ (λ j. (c .before .before .before .before .prices-pass .ensures) j && (c .before .both .ensures ∙ (λ i. (c .before .before .before .from-zero .ensures) i && (c .before .before .from-zero2 .ensures) i)) j)
 
 pub bar-passes-spec : {M : Type 1} → statement M
 bar-passes-spec =

@@ -1,6 +1,4 @@
-use Rattle.sound.specs.Code.SoundStand.{mergedRow}
-use Rattle.bars.specs.Questions.{question6, question8}
-use Rattle.stores.specs.Stores.{barOf}
+use Rattle.sound.specs.Code.SoundStand.{mergedRowBy}
 use borrow.Author.Needs.{needs}
 use Rattle.sound.proofs.soundness.merged_row.Statement.{statement}
 use Rattle.sound.proofs.soundness.merged_row.Tie as tie
@@ -27,7 +25,7 @@ bar-passes-requires : tie.Need-bar-passes-requires
 bar-passes-requires c κs = search needs
 
 returns : tie.Need-returns
-unfolding mergedRow barOf question6 question8
+unfolding mergedRowBy
 returns c = c .bar-passes .ensures
 
 pub merged-row-spec : {M : Type 1} → statement M

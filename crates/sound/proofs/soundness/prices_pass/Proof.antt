@@ -1,47 +1,22 @@
-use mathlib.Core.Bool.{_&&_}
-use mathlib.Core.Path.{_∙_, ap}
-use lib.Ieee.{ofBits, le}
-use Rattle.bars.specs.Questions.{leastPrice, mostPrice}
-use Rattle.sound.proofs.SoundRows.{smallerOf, largerOf, three-tests}
+use mathlib.Core.Path.{_∙_}
+use Rattle.sound.specs.Code.SoundStand.{pricesBy}
 use borrow.Author.Needs.{needs}
 use Rattle.sound.proofs.soundness.prices_pass.Statement.{statement}
 use Rattle.sound.proofs.soundness.prices_pass.Tie as tie
 
-smaller-requires : tie.Need-smaller-requires
-smaller-requires c κs = search needs
-
-smaller-requires-2 : tie.Need-smaller-requires-2
-smaller-requires-2 c κs = search needs
-
-larger-requires : tie.Need-larger-requires
-larger-requires c κs = search needs
-
-larger-requires-2 : tie.Need-larger-requires-2
-larger-requires-2 c κs = search needs
-
-both-requires : tie.Need-both-requires
-both-requires c κs = search needs
-
-both-requires-2 : tie.Need-both-requires-2
-both-requires-2 c κs = search needs
+any-sign-passes-requires : tie.Need-any-sign-passes-requires
+any-sign-passes-requires c κs = search needs
 
 returns : tie.Need-returns
-unfolding leastPrice mostPrice ofBits
-returns c =
-    let picks = c .before .before in
-    let a = picks .before .before .before .before .args in
-    let s = picks .before .before .smaller2 .ensures ∙ ap (smallerOf (a .low)) (picks .before .before .before .smaller .ensures) in
-    let g = picks .larger2 .ensures ∙ ap (λ b. largerOf b (a .high)) (picks .before .larger .ensures) in
-    c .both2 .ensures ∙ (λ j. (c .before .both .ensures ∙ (λ i. le leastPrice (s i) && le (g i) mostPrice)) j && le (a .low) (a .high)) ∙ three-tests (a .«open») (a .close) (a .high) (a .low)
+unfolding pricesBy
+returns c = rw (c .before .if1 .taken) (c .any-sign-passes .ensures)
+
+above-zero-requires : tie.Need-above-zero-requires
+above-zero-requires c κs = search needs
+
+returns-2 : tie.Need-returns-2
+unfolding pricesBy
+returns-2 c = rw (c .before .if1 .left) (c .above-zero .ensures)
 
 pub prices-pass-spec : {M : Type 1} → statement M
-prices-pass-spec =
-    tie.close
-    (tie.spec
-    smaller-requires
-    smaller-requires-2
-    larger-requires
-    larger-requires-2
-    both-requires
-    both-requires-2
-    returns)
+prices-pass-spec = tie.close (tie.spec any-sign-passes-requires returns above-zero-requires returns-2)

@@ -1,4 +1,6 @@
-use Rattle.sound.proofs.SoundRows.{raw-row-is}
+use mathlib.Core.Bool.{_&&_}
+use mathlib.Core.Path.{_∙_}
+use Rattle.sound.specs.Code.SoundStand.{rawRowBy}
 use borrow.Author.Needs.{needs}
 use Rattle.sound.proofs.soundness.raw_row.Statement.{statement}
 use Rattle.sound.proofs.soundness.raw_row.Tie as tie
@@ -37,7 +39,8 @@ both-requires-2 : tie.Need-both-requires-2
 both-requires-2 c κs = search needs
 
 returns : tie.Need-returns
-returns c = raw-row-is _ _ _ _ _ _ (c .both2 .ensures) (c .before .both .ensures) (c .before .before .before .before .prices-pass .ensures) (c .before .before .before .is-volume .ensures) (c .before .before .is-volume2 .ensures)
+unfolding rawRowBy
+returns c = c .both2 .ensures ∙ (λ j. (c .before .before .before .before .prices-pass .ensures) j && (c .before .both .ensures ∙ (λ i. (c .before .before .before .is-volume .ensures) i && (c .before .before .is-volume2 .ensures) i)) j)
 
 pub raw-row-spec : {M : Type 1} → statement M
 raw-row-spec =

@@ -1,60 +1,21 @@
-use lib.ListN.{length, drop}
-use mathlib.Core.Path.{_≡_, refl}
-use mathlib.Core.Bool.{_&&_}
-use Prim.Native.Nat.{_-_, _≤_}
-use Rattle.bars.specs.Lists.{every}
-use Rattle.sound.proofs.SoundScans.{every-turn, every-end}
-use Rattle.sound.specs.Code.SoundStand.{rawRow}
-use mathlib.Core.List.{[]}
+use Rattle.sound.specs.Code.SoundStand.{rawRowBy, rawRow}
+use Rattle.sound.proofs.SoundRows.{raw-above, raw-any}
+use Rattle.sound.proofs.SoundScans.{above-all, any-all}
 use borrow.Author.Needs.{needs}
 use Rattle.sound.proofs.soundness.raw_rows_pass.Statement.{statement}
 use Rattle.sound.proofs.soundness.raw_rows_pass.Tie as tie
 
-abbrev Inv-loop : tie.InvT-loop
-Inv-loop ps ok₀ i₀ ok i = (i ≤ length ps) × ((ok && every rawRow (drop i ps)) ≡ every rawRow ps)
+raw-rows-requires : tie.Need-raw-rows-requires
+raw-rows-requires c κs = search needs
 
-abbrev μ-loop : tie.MeasureT-loop
-μ-loop ps ok₀ i₀ ok i = length ps - i
+returns : tie.Need-returns
+returns c = above-all rawRowBy rawRow raw-above raw-any (c .before .before .args .ps .now) _ (c .before .raw-rows .ensures) (c .if1 .taken)
 
-loop-holds : tie.Need-loop-holds Inv-loop μ-loop
-loop-holds c = (search needs, refl)
+raw-rows-requires-2 : tie.Need-raw-rows-requires-2
+raw-rows-requires-2 c κs = search needs
 
-mul-p : tie.Need-mul-p Inv-loop μ-loop
-mul-p c = search needs
-
-shared-slice-copy-out-p : tie.Need-shared-slice-copy-out-p Inv-loop μ-loop
-shared-slice-copy-out-p c = search needs
-
-raw-row-requires : tie.Need-raw-row-requires Inv-loop μ-loop
-raw-row-requires c κs = search needs
-
-both-requires : tie.Need-both-requires Inv-loop μ-loop
-both-requires c κs = search needs
-
-add-i : tie.Need-add-i Inv-loop μ-loop
-add-i c = search needs
-
-loop-less : tie.Need-loop-less Inv-loop μ-loop
-loop-less c = search needs
-
-loop-again : tie.Need-loop-again Inv-loop μ-loop
-loop-again c = (search needs, every-turn rawRow (c .before .before .before .before .before .args .ps .now) (c .before .before .before .before .loop .i) [] (c .before .before .before .before .loop .ok) _ _ _ (search needs) (c .before .raw-row .ensures) (c .both .ensures) (c .before .before .before .before .loop .inv .1))
-
-returns : tie.Need-returns Inv-loop μ-loop
-returns c = every-end rawRow (c .before .before .args .ps .now) (c .before .loop .i) _ _ (search needs) (c .before .loop .inv .1)
+returns-2 : tie.Need-returns-2
+returns-2 c = any-all rawRowBy rawRow raw-above raw-any (c .before .before .before .args .ps .now) _ (c .raw-rows2 .ensures)
 
 pub raw-rows-pass-spec : {M : Type 1} → statement M
-raw-rows-pass-spec =
-    tie.close
-    (tie.spec
-    Inv-loop
-    μ-loop
-    loop-holds
-    mul-p
-    shared-slice-copy-out-p
-    raw-row-requires
-    both-requires
-    add-i
-    loop-less
-    loop-again
-    returns)
+raw-rows-pass-spec = tie.close (tie.spec raw-rows-requires returns raw-rows-requires-2 returns-2)

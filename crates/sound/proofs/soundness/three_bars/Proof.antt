@@ -1,6 +1,6 @@
 use mathlib.Core.Bool.{_&&_}
 use mathlib.Core.Path.{sym, _∙_}
-use Rattle.sound.specs.Code.SoundStand.{barsPass}
+use Rattle.sound.specs.Code.SoundStand.{barsBy}
 use Rattle.sound.proofs.SoundRows.{row-from}
 use borrow.Author.Needs.{needs}
 use Rattle.sound.proofs.soundness.three_bars.Statement.{statement}
@@ -76,8 +76,8 @@ both-requires-2 : tie.Need-both-requires-2
 both-requires-2 c κs = search needs
 
 returns : tie.Need-returns
-unfolding barsPass
-returns c = let p = c .before .before .before .before .before .args .t1 in c .both2 .ensures ∙ (λ j. (c .before .before .before .before .bar-passes .ensures ∙ row-from p 0) j && (c .before .both .ensures ∙ (λ i. (c .before .before .before .bar-passes2 .ensures ∙ row-from p 6) i && (c .before .before .bar-passes3 .ensures ∙ row-from p 12) i)) j)
+unfolding barsBy
+returns c = let a = c .before .before .before .before .before .args in let p = a .t2 in c .both2 .ensures ∙ (λ j. (c .before .before .before .before .bar-passes .ensures ∙ row-from (a .any-sign) p 0) j && (c .before .both .ensures ∙ (λ i. (c .before .before .before .bar-passes2 .ensures ∙ row-from (a .any-sign) p 6) i && (c .before .before .bar-passes3 .ensures ∙ row-from (a .any-sign) p 12) i)) j)
 
 pub three-bars-spec : {M : Type 1} → statement M
 three-bars-spec =
