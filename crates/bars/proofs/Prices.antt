@@ -2,16 +2,17 @@
 use Prim.Native.Nat.{ℕ}
 use lib.IntN.{ℤ}
 use mathlib.Core.Path.{_≡_, sym}
-use mathlib.Core.Bool.{true, false, _&&_, _||_}
+use mathlib.Core.Bool.{true, false, _&&_}
 use mathlib.Core.Logic.{inl, inr}
 use lib.Dec.{T}
 use lib.Ieee.{Float, nan, inf, fin, lt, le, eq, neg}
-use lib.Ieee.Fits.{and-l}
+use lib.Ieee.Fits.{and-l, and-r}
 use Rattle.arith.specs.Order.{absOf}
 use Rattle.arith.specs.Sums.{zeroF}
-use Rattle.arith.proofs.Tests.{yes, no, holds}
+use Rattle.arith.proofs.Tests.{yes, no, holds, pair}
 use Rattle.arith.proofs.FloatOrder.{Number, decide, or-r, eq-le, eq-sym, lt-le-trans}
-use Rattle.bars.specs.Questions.{leastPrice, mostPrice, hasMinus, isPlainZero, inPriceRange, isPrice, fromZero}
+use Rattle.bars.specs.declared.Bar.{Bar}
+use Rattle.bars.specs.Questions.{leastPrice, mostPrice, isPlainZero, inPriceRange, isPrice, fromZero, question6}
 
 -- a price is no NaN
 pub price-number : (x : Float) → T (isPrice x) → Number x
@@ -53,11 +54,22 @@ plain-zero x = elim (decide (eq x zeroF)) [
 
 -- ---- the tests of the code, one after the other
 
--- x is in the range; plain zero; neither, so that its size decides
-module _ (x : Float) where
-  pub in-range-passes : inPriceRange x ≡ true → true ≡ isPrice x
-  in-range-passes e = sym (yes (isPrice x) (price-above x (holds e)))
+-- a bar above zero passes
+two-above : (x y : Float) → T (inPriceRange x && inPriceRange y) → T (isPrice x && isPrice y)
+two-above x y h =
+    pair (isPrice x) (isPrice y) (price-above x (and-l (inPriceRange x) (inPriceRange y) h)) (price-above y (and-r (inPriceRange x) (inPriceRange y) h))
 
+pub bar-above : (b : Bar) → ((inPriceRange (b .«open») && inPriceRange (b .close)) && (inPriceRange (b .high) && inPriceRange (b .low))) ≡ true → true ≡ question6 b
+unfolding question6
+bar-above b e =
+    let first = inPriceRange (b .«open») && inPriceRange (b .close) in
+    let last = inPriceRange (b .high) && inPriceRange (b .low) in
+    let p = two-above (b .«open») (b .close) (and-l first last (holds e)) in
+    let q = two-above (b .high) (b .low) (and-r first last (holds e)) in
+    sym (yes (question6 b) (pair (isPrice (b .«open») && isPrice (b .close)) (isPrice (b .high) && isPrice (b .low)) p q))
+
+-- x is plain zero, or its size decides
+module _ (x : Float) where
   pub zero-passes : isPlainZero x ≡ true → true ≡ isPrice x
   unfolding isPrice
   zero-passes e = rw e

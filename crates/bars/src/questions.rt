@@ -49,23 +49,34 @@ fn in_price_range(x: f64) -> bool
     both(0.00000095367431640625 <= x, x <= 1073741824.0)
 }
 
-// A price: plain zero, or of size 2^-20 to 2^30. Most prices are above zero, so this is asked first.
+// A price: plain zero, or of size 2^-20 to 2^30.
 pub fn is_price(x: f64) -> bool
     ensures { λ r. ⌜ r ≡ isPrice x ⌝ }
 {
-    if in_price_range(x) {
-        return true;
-    }
     if is_plain_zero(x) {
         return true;
     }
     in_price_range(arith::abs(x))
 }
 
-// Question 6: is each of the four prices zero or of size 2^-20 to 2^30, minus zero barred?
+// All four prices from 2^-20 to 2^30, as flags.
+fn above_zero(b: Bar) -> bool
+    ensures { λ r. ⌜ r ≡ ((inPriceRange (b .«open») && inPriceRange (b .close)) && (inPriceRange (b .high) && inPriceRange (b .low))) ⌝ }
+{
+    both(
+        both(in_price_range(b.open), in_price_range(b.close)),
+        both(in_price_range(b.high), in_price_range(b.low)),
+    )
+}
+
+// Question 6: is each of the four prices zero or of size 2^-20 to 2^30, minus zero barred? Most bars lie above zero, so this is
+// asked first, and price by price only where it fails.
 pub fn prices_in_range(b: Bar) -> bool
     ensures { λ r. ⌜ r ≡ question6 b ⌝ }
 {
+    if above_zero(b) {
+        return true;
+    }
     if !is_price(b.open) {
         return false;
     }

@@ -3,13 +3,13 @@
 use Prim.Native.Nat.{ℕ}
 use mathlib.Core.Path.{_≡_, refl}
 use mathlib.Core.List.{List, [], _∷_, _++_, map}
-use lib.IntN.{ℤ, pos}
+use lib.IntN.{pos}
 use lib.Ieee.{Float, binary64, neg, sub}
 use Rattle.bars.specs.declared.Bar.{Bar}
 use Rattle.bars.specs.Bars.{own}
 use Rattle.machine.specs.declared.Mark.{Mark}
 use Rattle.machine.specs.declared.Mark.the-variants.{D, G}
-use Rattle.machine.specs.declared.Direction.the-variants.{Up, Down}
+use Rattle.machine.specs.declared.Direction.the-variants.{Up}
 use Rattle.machine.specs.Fractals.{Fractal}
 use Rattle.machine.specs.Feed.{Step}
 use Rattle.reports.specs.Measures.{change, measuresOf}

@@ -1,9 +1,9 @@
 -- What the tests of a row of prices cite: fewer tests that say the same. Assumes nothing.
-use Prim.Native.Nat.{ℕ, zero, suc, _+_, _*_, _<_}
+use Prim.Native.Nat.{ℕ, _+_, _<_}
 use native.Mathlib.Omega.{arith}
 use native.Mathlib.Nat.{add-zero}
 use mathlib.Core.Path.{_≡_, refl, subst, _∙_}
-use mathlib.Core.Bool.{Bool, true, false, not, _&&_, cond}
+use mathlib.Core.Bool.{Bool, true, false, _&&_}
 use mathlib.Core.List.{List, [], _∷_}
 use mathlib.Core.Logic.{inl, inr}
 use lib.ListN.{take, drop, getD}
@@ -130,27 +130,24 @@ pub bars-any : (p : List Float) → barsBy true p ≡ barsPass p
 unfolding barsBy barsPass
 bars-any p = λ i. merged-any (take 6 p) i && (merged-any (take 6 (drop 6 p)) i && merged-any (take 6 (drop 12 p)) i)
 
--- a row that passes above zero passes
-and-under : (a b v : Bool) → (T a → T b) → T (a && v) → T (b && v)
-and-under a b v f t = pair b v (f (and-l a v t)) (and-r a v t)
+-- a row that passes above zero passes, whatever else is asked of it
+row-above : (v : Bool) (p : List Float) → T (pricesBy false (getD p 0 nan) (getD p 1 nan) (getD p 2 nan) (getD p 3 nan) && v)
+    → T (pricesBy true (getD p 0 nan) (getD p 1 nan) (getD p 2 nan) (getD p 3 nan) && v)
+unfolding pricesBy
+row-above v p t =
+    let o = getD p 0 nan in
+    let c = getD p 1 nan in
+    let h = getD p 2 nan in
+    let l = getD p 3 nan in
+    pair (ofAnySign o c h l) v (above-passes o c h l (and-l (aboveZero o c h l) v t)) (and-r (aboveZero o c h l) v t)
 
 pub raw-above : (p : List Float) → T (rawRowBy false p) → T (rawRow p)
-unfolding rawRowBy pricesBy
-raw-above p t =
-    let o = getD p 0 nan in
-    let c = getD p 1 nan in
-    let h = getD p 2 nan in
-    let l = getD p 3 nan in
-    subst T (raw-any p) (and-under (aboveZero o c h l) (ofAnySign o c h l) (isVolume (getD p 4 nan) && isVolume (getD p 5 nan)) (above-passes o c h l) t)
+unfolding rawRowBy
+raw-above p t = subst T (raw-any p) (row-above (isVolume (getD p 4 nan) && isVolume (getD p 5 nan)) p t)
 
 pub merged-above : (p : List Float) → T (mergedRowBy false p) → T (mergedRow p)
-unfolding mergedRowBy pricesBy
-merged-above p t =
-    let o = getD p 0 nan in
-    let c = getD p 1 nan in
-    let h = getD p 2 nan in
-    let l = getD p 3 nan in
-    subst T (merged-any p) (and-under (aboveZero o c h l) (ofAnySign o c h l) (fromZero (getD p 4 nan) && fromZero (getD p 5 nan)) (above-passes o c h l) t)
+unfolding mergedRowBy
+merged-above p t = subst T (merged-any p) (row-above (fromZero (getD p 4 nan) && fromZero (getD p 5 nan)) p t)
 
 pub bars-above : (p : List Float) → T (barsBy false p) → T (barsPass p)
 unfolding barsBy barsPass

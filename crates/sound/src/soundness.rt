@@ -9,7 +9,7 @@ ghost use lib.IntN.{pos};
 ghost use lib.ListN.{length, take, drop, getD};
 ghost use lib.Signed.{ltZ};
 ghost use lib.Dec.{T, leb};
-ghost use lib.Ieee.{nan, lt};
+ghost use lib.Ieee.{lt};
 ghost use Rattle.bars.specs.Lists.{every, last};
 ghost use Rattle.stores.specs.Code.StoreRows.{rising, placeOf};
 ghost use Rattle.machine.specs.Soundness.{rises, sameTime, isSetting, endsOn};

@@ -3,7 +3,7 @@ use mathlib.Core.Path.{_∙_, sym, subst}
 use lib.Dec.{T}
 use lib.Ieee.{le}
 use Rattle.arith.proofs.Tests.{yes, holds}
-use Rattle.sound.specs.Code.SoundStand.{smallerOf, largerOf, sizeOf, aboveZero}
+use Rattle.sound.specs.Code.SoundStand.{smallerOf, largerOf, aboveZero}
 use Rattle.sound.proofs.SoundRows.{sizes-pass}
 use borrow.Author.Needs.{needs}
 use Rattle.sound.proofs.soundness.any_sign_passes.Statement.{statement}

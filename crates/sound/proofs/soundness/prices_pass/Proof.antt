@@ -1,4 +1,3 @@
-use mathlib.Core.Path.{_∙_}
 use Rattle.sound.specs.Code.SoundStand.{pricesBy}
 use borrow.Author.Needs.{needs}
 use Rattle.sound.proofs.soundness.prices_pass.Statement.{statement}
