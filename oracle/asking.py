@@ -23,7 +23,11 @@ def blocks(program, calls):
     failed wrote stands that it left; what it did not answer is empty."""
     text = "".join(call + "\n" for call in calls)
     done = subprocess.run(program, input=text, stdout=subprocess.PIPE, stderr=subprocess.DEVNULL, text=True, errors="replace")
-    lines = done.stdout.splitlines() + ([f"left with {done.returncode}"] if done.returncode else [])
+    return by_call(calls, done.stdout.splitlines() + ([f"left with {done.returncode}"] if done.returncode else []))
+
+
+def by_call(calls, lines):
+    """The lines of the answers, call by call."""
     answers, at = [], 0
     for call in calls:
         last = at

@@ -13,8 +13,12 @@ def whole(x):
     return math.copysign(float(low + (abs(x) - low >= 0.5)), x)
 
 
-def places(x, scale):
-    return whole(x * scale) / scale
+SCALES = (1.0, 10.0, 100.0, 1000.0, 10000.0, 100000.0, 1000000.0)
+
+
+def places(x, n):
+    """Rounded to n decimal places."""
+    return whole(x * SCALES[n]) / SCALES[n]
 
 
 def total(values):
@@ -55,24 +59,25 @@ def acceleration(closes):
     return (x2y * a - xy * b + y0 * c) / (x4 * a - x3 * b + x2 * c)
 
 
-def change(s):
+def change(s, ratio_places):
     """From start to end, by the start; 0.0 for a start of zero."""
     if s.start.fx == 0.0:
         return 0.0
-    return places((s.end.fx - s.start.fx) / s.start.fx, 10000.0)
+    return places((s.end.fx - s.start.fx) / s.start.fx, ratio_places)
 
 
-def measure(s, named):
+def measure(a, s, named):
+    """A stroke's numbers by the analyzer's places, then its inner bars and its fake strokes."""
     inner = [named[t] for b in s.bars[1:-1] for t in b.elements]
     closes = [b.close for b in inner]
-    numbers = [stroke_high(s), stroke_low(s), places(abs(s.end.fx - s.start.fx), 100.0),
-               total([b.vol for b in s.bars[1:-1]]), snr(inner), places(snr(inner), 10000.0),
-               change(s), slope(closes), acceleration(closes)]
+    numbers = [stroke_high(s), stroke_low(s), places(abs(s.end.fx - s.start.fx), a.power),
+               total([b.vol for b in s.bars[1:-1]]), snr(inner), places(snr(inner), a.ratio),
+               change(s, a.ratio), slope(closes), acceleration(closes)]
     yield words("measure", *numbers, len(s.bars), len(inner))
     yield words("inner", *(b.time for b in inner))
-    for a, b in fake_pairs(s.fractals):
-        high, low = (a.high, b.low) if a.top else (b.high, a.low)
-        yield words("fake", way(not a.top), a.time, b.time, high, low, places(high - low, 100.0))
+    for x, y in fake_pairs(s.fractals):
+        high, low = (x.high, y.low) if x.top else (y.high, x.low)
+        yield words("fake", way(not x.top), x.time, y.time, high, low, places(high - low, a.power))
 
 
 def fake_pairs(fractals):
@@ -174,12 +179,11 @@ def unfinished_summary(a, fractals, named):
     return words("unfinished", way(not a.strokes[-1].up), high, low, high_time, low_time, *counts, fractals[0].time)
 
 
-def ratio(low, high):
-    """A gap's size by its lower edge, or the word none where that edge is zero or less: no ratio there."""
-    return places(high / low - 1.0, 10000.0) if low > 0.0 else "none"
+def gaps(raw, ratio_places):
+    def ratio(low, high):
+        """A gap's size by its lower edge, or the word none where that edge is zero or less: no ratio there."""
+        return places(high / low - 1.0, ratio_places) if low > 0.0 else "none"
 
-
-def gaps(raw):
     for n, (a, b) in enumerate(zip(raw, raw[1:])):
         rest = raw[n + 1:]
         if a.high < b.low:
@@ -194,10 +198,10 @@ def reports(a):
     named = {b.time: b for b in a.raw}
     unfinished = check_fxs(a.unfinished)
     finished = a.strokes[:-1] if len(a.unfinished) < 5 else a.strokes
-    lines = [line for s in a.strokes for line in measure(s, named)]
+    lines = [line for s in a.strokes for line in measure(a, s, named)]
     lines += ["fxs " + fractal(x) for x in fractal_list(a.strokes, unfinished)]
     lines += [words("finished", len(finished)), words("extend", extended(a))]
     lines += [*zones("", a.strokes), *zones("fin-", finished), *runs(a.strokes)]
     lines += [answers(x) for s in a.strokes for x in s.fractals] + [answers(x) for x in unfinished]
     lines += ["ubifx " + fractal(x) for x in unfinished]
-    return lines + [unfinished_summary(a, unfinished, named), *gaps(a.raw), "end"]
+    return lines + [unfinished_summary(a, unfinished, named), *gaps(a.raw, a.ratio), "end"]

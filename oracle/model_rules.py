@@ -128,13 +128,15 @@ def breaks(stroke, bar):
 
 
 class Analyzer:
-    def __init__(self, least, most, raw_room, unfinished_room, stroke_room):
+    def __init__(self, least, most, power, ratio, raw_room, unfinished_room, stroke_room):
         self.least, self.most = least, most
+        # decimal places of powers and of ratios
+        self.power, self.ratio = power, ratio
         self.raw_room, self.unfinished_room, self.stroke_room = raw_room, unfinished_room, stroke_room
         self.raw, self.unfinished, self.strokes = [], [], []
 
     def ask_sound(self):
-        """Question 4. From fresh only this clause can fail."""
+        """Question 4. From fresh only this clause can fail: the settings, places among them, were asked by 1, 2 and 17, and no call changes them."""
         if self.raw and self.unfinished[-1].elements[-1] != self.raw[-1].time:
             raise Refused(4)
 

@@ -1,4 +1,4 @@
-"""Calls at the edges of questions 1 to 3 and 5 to 9, each number by itself and several at once."""
+"""Calls at the edges of questions 1, 2, 17, 3 and 5 to 9, each number by itself and several at once."""
 import math
 
 from asking import bar
@@ -79,6 +79,47 @@ def first_lines():
     yield from ["b 11 1 " + " ".join([bits(10.0).upper().replace("4", "A")] * 6), "b 11.5 1 " + " ".join([bits(10.0)] * 6)]
 
 
+def placed(power, ratio, least=6, most=50, stores=(64, 64, 64)):
+    return f"N {least} {most} {power} {ratio} {' '.join(map(str, stores))}"
+
+
+def order():
+    """Several of 1, 2, 17 and 3 fail at once: the first in this order is answered."""
+    pairs = ((7, 4), (2, 7), (7, 7))
+    for power, ratio in pairs:
+        for least, most in ((65, 50), (6, 65), (65, 65), (64, 64), (0, 0)):
+            yield placed(power, ratio, least, most)
+            yield placed(power, ratio, least, most, (15, 15, 15))
+        for n in (15, 65537):
+            yield from [placed(power, ratio, stores=s) for s in ((n, 64, 64), (64, n, 64), (64, 64, n))]
+    for n in (15, 65537):
+        yield from [placed(6, 6, stores=s) for s in ((n, 64, 64), (64, n, 64), (64, 64, n))]
+    yield from [placed(6, 6, 65, 65, (15, 15, 15)), placed(6, 6, 64, 65, (15, 15, 15)), placed(6, 6, 64, 64, (15, 15, 15))]
+
+
+def no_places():
+    """Lines that begin with N and are no calls."""
+    good = placed(2, 4).split(" ")
+    yield from ["N", " ".join(good[:-2]), " ".join(good[:-1]), " ".join(good + ["64"]), " ".join(good) + " ", " " + " ".join(good)]
+    for n in range(1, 8):
+        for word in ("-1", "-0", str(2**64), "", " " + good[n], "+" + good[n], "x", "2.0"):
+            yield " ".join(good[:n] + [word] + good[n + 1:])
+    yield from ["N\t6 50 2 4 64 64 64", "NN 6 50 2 4 64 64 64", "n 6 50 2 4 64 64 64"]
+
+
+def places():
+    """Request two: every pair of places from 0 to 7, larger numbers, the order of the questions, and lines that are no calls."""
+    yield from [placed(power, ratio) for power in range(8) for ratio in range(8)]
+    for n in (8, 64, 65, 2**32, 2**32 + 2, 2**63 - 1):
+        yield from [placed(n, 4), placed(2, n), placed(n, n)]
+    yield from order()
+    yield from [placed(0, 0, 0, 0), placed("006", "00", "064", "01", ("064", 64, 64))]
+    yield from [changed(), changed(time=11, high=9.5, low=8.0), changed(time=12, high=16.0, low=14.0)]
+    yield from no_places()
+    yield from ["d", "r", placed(7, 0), "r", placed(0, 7), "d", "r"]
+
+
 def lines(r):
     yield from first_lines()
     yield from zero()
+    yield from places()

@@ -7,8 +7,8 @@ def first_difference(pairing, calls):
 
 
 def start_of(calls, place):
-    """Where the last `n` up to this place stands."""
-    return max((n for n in range(place + 1) if calls[n].startswith("n ")), default=0)
+    """Where the last `n` or `N` up to this place stands."""
+    return max((n for n in range(place + 1) if calls[n].startswith(("n ", "N "))), default=0)
 
 
 def without_parts(shows, head, rest, size):
@@ -23,7 +23,7 @@ def without_parts(shows, head, rest, size):
 
 
 def shortened(pairing, calls):
-    """The calls up to the first difference, from the last `n` on, then halves, quarters and so on left out while the two still differ, until no
+    """The calls up to the first difference, from the last `n` or `N` on, then halves, quarters and so on left out while the two still differ, until no
     single call can go."""
     def shows(some):
         return first_difference(pairing, some) is not None

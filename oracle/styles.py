@@ -1,6 +1,6 @@
 """Styles of bars. Each is made from a source of random numbers and gives, call by call, (open, close, high, low).
 Every bar has four prices that are plain zero or of magnitude 2^-20 to 2^30, and a low that is at most the high. Prices at or below
-zero come in the last four styles only."""
+zero come in the last five styles only."""
 import math
 
 LOWEST, HIGHEST = 2.0**-20, 2.0**30
@@ -225,5 +225,35 @@ class Signed:
         return r.pick(self.values), r.pick(self.values), high, low
 
 
+class Fine:
+    """Legs up and down in steps finer than cents, so that each number of places rounds: parts of two, whose multiples lie halfway between two
+    numbers of 0 to 6 places, decimals up to the seventh, and any floats. Above zero, or all of it upside down."""
+
+    def __init__(self, r):
+        self.r, self.at, self.way, self.left = r, r.between(2000, 8000), r.pick([1, -1]), 5
+        self.parts = r.pick([2.0, 4.0, 8.0, 16.0, 32.0, 64.0, 128.0, 1e3, 1e4, 1e5, 1e6, 1e7])
+        self.base, self.loose, self.below = r.pick([0.0, 0.0, 1.0, 100.0]), r.chance(1, 3), r.chance(1, 3)
+
+    def price(self, steps):
+        off = self.r.unit() if self.loose else 0.0
+        return self.base + (max(steps, 16) + off) / self.parts
+
+    def move(self):
+        r = self.r
+        if self.left <= 0:
+            self.way, self.left = -self.way, r.between(1, 14)
+        if not 400 <= self.at <= 20000:
+            self.way, self.left = 1 if self.at < 400 else -1, r.between(4, 14)
+        self.left -= 1
+        self.at += self.way * r.between(1, 40)
+
+    def bar(self):
+        r = self.r
+        self.move()
+        low, high = sorted((self.price(self.at + r.between(0, 25)), self.price(self.at - r.between(0, 25))))
+        open_, close = body(r, high, low, [high, low, self.price(self.at)])
+        return (-open_, -close, -low, -high) if self.below else (open_, close, high, low)
+
+
 STYLES = {"walk": Walk, "five": Five, "nested": Nested, "zigzag": Zigzag, "cents": Cents, "ends": Ends,
-          "below": Below, "at": At, "across": Across, "signed": Signed}
+          "below": Below, "at": At, "across": Across, "signed": Signed, "fine": Fine}

@@ -4,12 +4,18 @@ use crate::series::Fed;
 /// How many bars each store takes: the most there may be.
 pub const ROOM: usize = 65536;
 
+/// The decimal places that the Rust rounds to.
+const POWER: usize = 2;
+const RATIO: usize = 4;
+
 #[link(name = "czsc_c", kind = "static")]
 unsafe extern "C" {
     fn czsc_fresh(
         minimum: usize,
         most: usize,
-        numbers: *mut [usize; 8],
+        power: usize,
+        ratio: usize,
+        numbers: *mut [usize; 10],
         numbers_len: usize,
         counts: *mut [u32; 65],
         counts_len: usize,
@@ -45,7 +51,7 @@ unsafe extern "C" {
         fp_len: usize,
     ) -> u64;
     fn czsc_update_bar(
-        numbers: *mut [usize; 8],
+        numbers: *mut [usize; 10],
         numbers_len: usize,
         counts: *mut [u32; 65],
         counts_len: usize,
@@ -93,7 +99,9 @@ unsafe extern "C" {
     fn czsc_feed_all(
         minimum: usize,
         most: usize,
-        numbers: *mut [usize; 8],
+        power: usize,
+        ratio: usize,
+        numbers: *mut [usize; 10],
         numbers_len: usize,
         counts: *mut [u32; 65],
         counts_len: usize,
@@ -140,7 +148,7 @@ unsafe extern "C" {
 
 /// The packed stand, strokes made, broken and shed, and the lent stores.
 pub struct Port {
-    pub numbers: [[usize; 8]; 1],
+    pub numbers: [[usize; 10]; 1],
     pub counts: [[u32; 65]; 2],
     pub events: [[u64; 3]; 1],
     /// of the batch call: made, broken, shed, and bars accepted
@@ -183,7 +191,7 @@ impl Port {
     /// No analyzer yet: the stores alone.
     pub fn stores() -> Port {
         Port {
-            numbers: [[0; 8]],
+            numbers: [[0; 10]],
             counts: [[0; 65]; 2],
             events: [[0; 3]],
             sums: [[0; 4]],
@@ -211,6 +219,8 @@ impl Port {
             czsc_fresh(
                 0,
                 0,
+                POWER,
+                RATIO,
                 self.numbers.as_mut_ptr(),
                 self.numbers.len(),
                 self.counts.as_mut_ptr(),
@@ -310,6 +320,8 @@ impl Port {
             czsc_feed_all(
                 0,
                 0,
+                POWER,
+                RATIO,
                 self.numbers.as_mut_ptr(),
                 self.numbers.len(),
                 self.counts.as_mut_ptr(),

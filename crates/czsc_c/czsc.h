@@ -2,8 +2,8 @@
 #include <stddef.h>
 #include <stdint.h>
 
-uint64_t czsc_fresh(size_t minimum, size_t most,
-    size_t (*numbers)[8], size_t numbers_len, uint32_t (*counts)[65], size_t counts_len,
+uint64_t czsc_fresh(size_t minimum, size_t most, size_t power, size_t ratio,
+    size_t (*numbers)[10], size_t numbers_len, uint32_t (*counts)[65], size_t counts_len,
     const int64_t *rt, size_t rt_len,
     const int32_t *ri, size_t ri_len,
     const double (*rp)[6], size_t rp_len,
@@ -20,7 +20,7 @@ uint64_t czsc_fresh(size_t minimum, size_t most,
     const int64_t (*fs)[6], size_t fs_len,
     const double (*fp)[18], size_t fp_len);
 
-uint64_t czsc_update_bar(size_t (*numbers)[8], size_t numbers_len, uint32_t (*counts)[65], size_t counts_len, uint64_t (*events)[3], size_t events_len,
+uint64_t czsc_update_bar(size_t (*numbers)[10], size_t numbers_len, uint32_t (*counts)[65], size_t counts_len, uint64_t (*events)[3], size_t events_len,
     int64_t *rt, size_t rt_len,
     int32_t *ri, size_t ri_len,
     double (*rp)[6], size_t rp_len,
@@ -38,8 +38,8 @@ uint64_t czsc_update_bar(size_t (*numbers)[8], size_t numbers_len, uint32_t (*co
     double (*fp)[18], size_t fp_len,
     int64_t time, int32_t id, double open, double close, double high, double low, double vol, double amount);
 
-uint64_t czsc_feed_all(size_t minimum, size_t most,
-    size_t (*numbers)[8], size_t numbers_len, uint32_t (*counts)[65], size_t counts_len, uint64_t (*sums)[4], size_t sums_len,
+uint64_t czsc_feed_all(size_t minimum, size_t most, size_t power, size_t ratio,
+    size_t (*numbers)[10], size_t numbers_len, uint32_t (*counts)[65], size_t counts_len, uint64_t (*sums)[4], size_t sums_len,
     int64_t *rt, size_t rt_len,
     int32_t *ri, size_t ri_len,
     double (*rp)[6], size_t rp_len,

@@ -9,5 +9,6 @@ pub mod ExactDivisor
 pub mod SumLaws
 pub mod RoundingLaws
 pub mod RoundingParts
+pub mod RoundingPlaces
 pub mod RoundSteps
 pub mod PartSteps

@@ -37,7 +37,7 @@ half-near a c n C h = half-is a c n C (le-of-lt (h .1)) (h .2)
 pub half-tie : (a c n : ℕ) → 0 < c → a * 2 ≡ (2 * n + 1) * c → halfUp a c ≡ n + 1
 half-tie a c n C h = half-is a c (n + 1) C (omega arith) (omega arith)
 
-half-whole : (a c n : ℕ) → 0 < c → a * 1 ≡ n * c → halfUp a c ≡ n
+pub half-whole : (a c n : ℕ) → 0 < c → a * 1 ≡ n * c → halfUp a c ≡ n
 half-whole a c n C h = half-is a c n C (omega arith) (omega arith)
 
 -- of a whole number, near one and halfway it is only one
@@ -165,7 +165,7 @@ pub fraction-below : (s : Bool) (m : ℕ) (e : ℤ) → T (fits binary64 (fin s 
 fraction-below s m e t f = elim (lt-or-ge (m * up e) (2 ^ 52 * down e)) [ inl l ↦ l | inr g ↦ absurd (f (whole-left s m e (big-left s m e t g))) ]
 
 -- what is no whole number goes to the float n, exactly, where `halfUp` says n
-goes-to : (s : Bool) (m : ℕ) (e : ℤ) → T (fits binary64 (fin s m e)) → (FallsTo (fin s m e) Whole → ⊥) → (n : ℕ) → halfUp (m * up e) (down e) ≡ n → IsWhole (roundAway (fin s m e)) s n
+pub goes-to : (s : Bool) (m : ℕ) (e : ℤ) → T (fits binary64 (fin s m e)) → (FallsTo (fin s m e) Whole → ⊥) → (n : ℕ) → halfUp (m * up e) (down e) ≡ n → IsWhole (roundAway (fin s m e)) s n
 unfolding roundAway
 goes-to s m e t f n h =
     let a = m * up e in

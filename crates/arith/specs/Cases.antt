@@ -182,6 +182,41 @@ pub marked-7 : roundTo 4 (div binary64 (sub binary64 (fin false 131071 (pos 0)) 
 unfolding roundTo sub div
 marked-7 = refl
 
+-- ---- places other than 2 and 4
+
+-- 0.85, as a float a little below, times ten is 8.5 by rounding, so that it goes to 0.9 and not to 0.8
+eighty-five : roundTo 1 (I.round binary64 false 85 100) ≡ I.round binary64 false 9 10
+unfolding roundTo I.round
+eighty-five = refl
+
+-- 0 places are none: 2.5 goes to 3, -0.4 to -0
+no-places : roundTo 0 (fin false 5 (negsuc 0)) ≡ fin false 3 (pos 0)
+unfolding roundTo I.round
+no-places = refl
+
+no-places-minus : roundTo 0 (I.round binary64 true 4 10) ≡ fin true 0 (pos 0)
+unfolding roundTo I.round
+no-places-minus = refl
+
+-- 0.0000005 to 6 places is 0.000001: the product rounds to 0.5
+millionth : roundTo 6 (I.round binary64 false 5 10000000) ≡ I.round binary64 false 1 1000000
+unfolding roundTo I.round
+millionth = refl
+
+-- a result rounded again changes: 4297296585.6103735 to 6 places is the float nearest ..610374, and that goes to the one nearest ..610375
+once : roundTo 6 (I.round binary64 false 42972965856103735 10000000) ≡ I.round binary64 false 4297296585610374 1000000
+unfolding roundTo I.round
+once = refl
+
+twice : roundTo 6 (I.round binary64 false 4297296585610374 1000000) ≡ I.round binary64 false 4297296585610375 1000000
+unfolding roundTo I.round
+twice = refl
+
+-- 1e308 to 1 place is infinite, since the product is
+too-large : roundTo 1 (I.round binary64 false (10 ^ 308) 1) ≡ inf false
+unfolding roundTo I.round
+too-large = refl
+
 -- ---- the larger, the smaller, the absolute value
 
 -- of 1 and -2, and where one side is NaN or the two are zeros

@@ -1,6 +1,7 @@
 pub mod Order
 pub mod Rounding
 pub mod RoundingParts
+pub mod RoundingPlaces
 pub mod Cases
 pub mod Sums
 pub mod SlopeDivisor

@@ -8,8 +8,6 @@ pub use order::abs;
 pub use order::max;
 pub use order::min;
 pub use rounding::round;
-pub use rounding::round_to_2_digit;
-pub use rounding::round_to_4_digit;
 pub use rounding::round_to_nth_digit;
 pub use sums::FitSums;
 pub use sums::MeanSums;

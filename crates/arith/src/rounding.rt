@@ -11,6 +11,7 @@ ghost use lib.Ieee.Positive.{positive, num, den};
 ghost use lib.Ieee.Scale.{finite};
 ghost use Rattle.arith.specs.Rounding.{halfUp, roundAway, tenTo, roundTo};
 ghost use Rattle.arith.specs.RoundingParts.{IsNotFinite, FallsTo, ToNearest, TiesToAway, FourParts};
+ghost use Rattle.arith.specs.RoundingPlaces.{SevenPlaces};
 ghost use Rattle.arith.specs.Code.RoundingTests.{IsFraction};
 ghost use Rattle.arith.specs.declared.rounding.Part.the-variants.{Whole, Nearest, Tie};
 use crate::order::abs;
@@ -144,22 +145,10 @@ fn ten_to(nth: usize) -> f64
     }
 }
 
-// `v` to `nth` decimal places, at most 6.
+// `v` to `nth` decimal places, at most 6. What the three operations come to is the same for all seven numbers of places.
 pub fn round_to_nth_digit(v: f64, nth: usize) -> f64
-    ensures { λ r. ⌜ r ≡ roundTo nth v ⌝ }
+    ensures { λ r. ⌜ (r ≡ roundTo nth v) × SevenPlaces ⌝ }
 {
     let scale = ten_to(nth);
     round(v * scale) / scale
-}
-
-pub fn round_to_2_digit(v: f64) -> f64
-    ensures { λ r. ⌜ r ≡ roundTo 2 v ⌝ }
-{
-    round_to_nth_digit(v, 2)
-}
-
-pub fn round_to_4_digit(v: f64) -> f64
-    ensures { λ r. ⌜ r ≡ roundTo 4 v ⌝ }
-{
-    round_to_nth_digit(v, 4)
 }

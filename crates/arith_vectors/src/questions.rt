@@ -108,9 +108,9 @@ fn read_values(line: &[u8], from: usize, values: &mut [f64]) -> Values {
 fn of_one(kind: Kind, x: f64) -> Answer {
     match kind {
         Kind::Round => Answer::Is(arith::round(x)),
-        Kind::Round2 => Answer::Is(arith::round_to_2_digit(x)),
+        Kind::Round2 => Answer::Is(arith::round_to_nth_digit(x, 2)),
         Kind::Round3 => Answer::Is(arith::round_to_nth_digit(x, 3)),
-        Kind::Round4 => Answer::Is(arith::round_to_4_digit(x)),
+        Kind::Round4 => Answer::Is(arith::round_to_nth_digit(x, 4)),
         Kind::Abs => Answer::Is(arith::abs(x)),
         _ => Answer::Bad,
     }

@@ -41,91 +41,91 @@ module _ {A : Type 0} (p : A → Bool) (l : List A) (n j : ℕ) where
 
 -- ---- one pair
 
-module _ (a b : List Float) (right : List (List Float)) (g : Gap) (c : Bool) where
-  pub gap-up : lt (rowHigh a) (rowLow b) ≡ true → c ≡ some-of (coversUp a) right → g ≡ upGap (rowHigh a) (rowLow b) c → g ≡ gapOf a b right
+module _ (d : ℕ) (a b : List Float) (right : List (List Float)) (g : Gap) (c : Bool) where
+  pub gap-up : lt (rowHigh a) (rowLow b) ≡ true → c ≡ some-of (coversUp a) right → g ≡ upGap d (rowHigh a) (rowLow b) c → g ≡ gapOf d a b right
   unfolding gapOf gapIf
   gap-up p q s = s ∙ rw (p, q)
 
-  pub gap-down : lt (rowHigh a) (rowLow b) ≡ false → lt (rowHigh b) (rowLow a) ≡ true → c ≡ some-of (coversDown a) right → g ≡ downGap (rowHigh b) (rowLow a) c
-      → g ≡ gapOf a b right
+  pub gap-down : lt (rowHigh a) (rowLow b) ≡ false → lt (rowHigh b) (rowLow a) ≡ true → c ≡ some-of (coversDown a) right → g ≡ downGap d (rowHigh b) (rowLow a) c
+      → g ≡ gapOf d a b right
   unfolding gapOf gapIf
   gap-down p q s t = t ∙ rw (p, q, s)
 
-pub gap-none : (a b : List Float) (right : List (List Float)) → lt (rowHigh a) (rowLow b) ≡ false → lt (rowHigh b) (rowLow a) ≡ false → NoGap ≡ gapOf a b right
+pub gap-none : (d : ℕ) (a b : List Float) (right : List (List Float)) → lt (rowHigh a) (rowLow b) ≡ false → lt (rowHigh b) (rowLow a) ≡ false → NoGap ≡ gapOf d a b right
 unfolding gapOf gapIf
-gap-none a b right p q = rw (p, q)
+gap-none d a b right p q = rw (p, q)
 
 -- ---- the pair at a place among all pairs
 
-at-pair : (l : List (List Float)) (j : ℕ) → suc j < length l → getD (gapsOf l) j NoGap ≡ gapOf (getD l j []) (getD l (suc j) []) (drop (suc j) l)
+at-pair : (d : ℕ) (l : List (List Float)) (j : ℕ) → suc j < length l → getD (gapsOf d l) j NoGap ≡ gapOf d (getD l j []) (getD l (suc j) []) (drop (suc j) l)
 unfolding gapsOf
-at-pair [] j h = absurd (omega arith)
-at-pair (a ∷ []) j h = absurd (omega arith)
-at-pair (a ∷ b ∷ l) zero h = refl
-at-pair (a ∷ b ∷ l) (suc j) h = at-pair (b ∷ l) j (le-of-suc-le-suc h)
+at-pair d [] j h = absurd (omega arith)
+at-pair d (a ∷ []) j h = absurd (omega arith)
+at-pair d (a ∷ b ∷ l) zero h = refl
+at-pair d (a ∷ b ∷ l) (suc j) h = at-pair d (b ∷ l) j (le-of-suc-le-suc h)
 
-pub gaps-length : (l : List (List Float)) → length (gapsOf l) ≡ length l - 1
+pub gaps-length : (d : ℕ) (l : List (List Float)) → length (gapsOf d l) ≡ length l - 1
 unfolding gapsOf
-gaps-length [] = refl
-gaps-length (a ∷ []) = refl
-gaps-length (a ∷ b ∷ l) = let h = gaps-length (b ∷ l) in omega arith
+gaps-length d [] = refl
+gaps-length d (a ∷ []) = refl
+gaps-length d (a ∷ b ∷ l) = let h = gaps-length d (b ∷ l) in omega arith
 
-module _ (ps : List (List Float)) (n i : ℕ) where
+module _ (d : ℕ) (ps : List (List Float)) (n i : ℕ) where
   -- the pair of bars i and i + 1 of the first n
-  pub pair-among : n ≤ length ps → i + 1 < n → getD (gapsOf (take n ps)) i NoGap ≡ gapOf (getD ps i []) (getD ps (i + 1) []) (drop (i + 1) (take n ps))
+  pub pair-among : n ≤ length ps → i + 1 < n → getD (gapsOf d (take n ps)) i NoGap ≡ gapOf d (getD ps i []) (getD ps (i + 1) []) (drop (i + 1) (take n ps))
   pair-among room h =
       let w : suc i < length (take n ps) = rw (length-take-le n ps room) (omega arith) in
       let k : i < n = omega arith in
-      rw (add-one, ← getD-take n ps i [] k, ← getD-take n ps (suc i) [] (omega arith)) (at-pair (take n ps) i w)
+      rw (add-one, ← getD-take n ps i [] k, ← getD-take n ps (suc i) [] (omega arith)) (at-pair d (take n ps) i w)
 
-  pub among-short : length ps < n → Missing ≡ gapAmong ps n i
+  pub among-short : length ps < n → Missing ≡ gapAmong d ps n i
   unfolding gapAmong unlessShort
   among-short h = rw (lt-leb n (length ps) h)
 
-  pub among-none : n ≤ length ps → n ≤ i + 1 → Missing ≡ gapAmong ps n i
+  pub among-none : n ≤ length ps → n ≤ i + 1 → Missing ≡ gapAmong d ps n i
   unfolding gapAmong unlessShort gapAt pairIf
   among-none room h = rw (le-leb n (length ps) room, length-take-le n ps room, le-ltb (i + 1) n h)
 
-  pub among-pair : (g : Gap) → n ≤ length ps → i + 1 < n → g ≡ gapOf (getD ps i []) (getD ps (i + 1) []) (drop (i + 1) (take n ps)) → Pair g ≡ gapAmong ps n i
+  pub among-pair : (g : Gap) → n ≤ length ps → i + 1 < n → g ≡ gapOf d (getD ps i []) (getD ps (i + 1) []) (drop (i + 1) (take n ps)) → Pair g ≡ gapAmong d ps n i
   unfolding gapAmong unlessShort gapAt pairIf
   among-pair g room h e = rw (le-leb n (length ps) room, length-take-le n ps room, lt-ltb (i + 1) n h) (ap Pair (e ∙ sym (pair-among room h)))
 
 -- ---- all pairs in a column
 
 -- one more of the gaps' numbers, values or covers, at its place
-pub column-turn : {B : Type 0} (f : Gap → B) (ps : List (List Float)) (n i : ℕ) (d l : List B) (v : B) (g : Gap) → n ≤ length ps → i + 1 < n → i < length d
-    → g ≡ gapOf (getD ps i []) (getD ps (i + 1) []) (drop (i + 1) (take n ps)) → v ≡ f g → l ≡ copied d 0 (map f (gapsOf (take n ps))) 0 i
-    → set l i v ≡ copied d 0 (map f (gapsOf (take n ps))) 0 (i + 1)
-column-turn f ps n i d l v g room h k e q s =
-    let gs = gapsOf (take n ps) in
+pub column-turn : {B : Type 0} (f : Gap → B) (places : ℕ) (ps : List (List Float)) (n i : ℕ) (d l : List B) (v : B) (g : Gap) → n ≤ length ps → i + 1 < n → i < length d
+    → g ≡ gapOf places (getD ps i []) (getD ps (i + 1) []) (drop (i + 1) (take n ps)) → v ≡ f g → l ≡ copied d 0 (map f (gapsOf places (take n ps))) 0 i
+    → set l i v ≡ copied d 0 (map f (gapsOf places (take n ps))) 0 (i + 1)
+column-turn f places ps n i d l v g room h k e q s =
+    let gs = gapsOf places (take n ps) in
     let w : i < length (map f gs) =
-    omega (arith, length-map gs f, gaps-length (take n ps), length-take-le n ps room)
+    omega (arith, length-map gs f, gaps-length places (take n ps), length-take-le n ps room)
     in
-    copy-turn d (map f gs) l i (f NoGap) v s k w (q ∙ ap f (e ∙ sym (pair-among ps n i room h)) ∙ sym (List·getD-map f gs i NoGap))
+    copy-turn d (map f gs) l i (f NoGap) v s k w (q ∙ ap f (e ∙ sym (pair-among places ps n i room h)) ∙ sym (List·getD-map f gs i NoGap))
 
 -- ---- the answers of the listing
 
-module _ (ps : List (List Float)) (n : ℕ) (s : GapColumns) where
-  pub listed-4 : length ps < n → gapsListed 4 s ≡ listGaps ps n s
+module _ (d : ℕ) (ps : List (List Float)) (n : ℕ) (s : GapColumns) where
+  pub listed-4 : length ps < n → gapsListed 4 s ≡ listGaps d ps n s
   unfolding listGaps listIf
   listed-4 h = rw (lt-leb n (length ps) h)
 
   module _ (room : n ≤ length ps) where
-    pub listed-14-kinds : length (s .kinds) < n - 1 → gapsListed 14 s ≡ listGaps ps n s
+    pub listed-14-kinds : length (s .kinds) < n - 1 → gapsListed 14 s ≡ listGaps d ps n s
     unfolding listGaps listIf
     listed-14-kinds h = rw (le-leb n (length ps) room, lt-leb (n - 1) (length (s .kinds)) h)
 
-    pub listed-14-values : n - 1 ≤ length (s .kinds) → length (s .values) < n - 1 → gapsListed 14 s ≡ listGaps ps n s
+    pub listed-14-values : n - 1 ≤ length (s .kinds) → length (s .values) < n - 1 → gapsListed 14 s ≡ listGaps d ps n s
     unfolding listGaps listIf
     listed-14-values a h = rw (le-leb n (length ps) room, le-leb (n - 1) (length (s .kinds)) a, lt-leb (n - 1) (length (s .values)) h)
 
-    pub listed-14-covered : n - 1 ≤ length (s .kinds) → n - 1 ≤ length (s .values) → length (s .covered) < n - 1 → gapsListed 14 s ≡ listGaps ps n s
+    pub listed-14-covered : n - 1 ≤ length (s .kinds) → n - 1 ≤ length (s .values) → length (s .covered) < n - 1 → gapsListed 14 s ≡ listGaps d ps n s
     unfolding listGaps listIf
     listed-14-covered a b h =
         rw (le-leb n (length ps) room, le-leb (n - 1) (length (s .kinds)) a, le-leb (n - 1) (length (s .values)) b, lt-leb (n - 1) (length (s .covered)) h)
 
     pub listed-0 : (t : GapColumns) → n - 1 ≤ length (s .kinds) → n - 1 ≤ length (s .values) → n - 1 ≤ length (s .covered)
-        → t ≡ written (gapsOf (take n ps)) (n - 1) s → gapsListed 0 t ≡ listGaps ps n s
+        → t ≡ written (gapsOf d (take n ps)) (n - 1) s → gapsListed 0 t ≡ listGaps d ps n s
     unfolding listGaps listIf
     listed-0 t a b c e =
         rw (le-leb n (length ps) room, le-leb (n - 1) (length (s .kinds)) a, le-leb (n - 1) (length (s .values)) b, le-leb (n - 1) (length (s .covered)) c, e)

@@ -5,7 +5,7 @@ use mathlib.Core.Bool.{Bool, true, false}
 use mathlib.Core.List.{List, [], _∷_, _++_, map}
 use mathlib.Core.Option.{none, some}
 use lib.IntN.{ℤ, pos, negsuc}
-use lib.Ieee.{Float, nan, inf, fin, binary64, neg, ofInt}
+use lib.Ieee.{Float, nan, inf, fin, binary64, neg, round, ofInt}
 use Rattle.bars.specs.declared.Bar.{Bar}
 use Rattle.bars.specs.declared.gaps.Gap.{Gap}
 use Rattle.bars.specs.declared.gaps.Gap.the-variants.{NoGap, Up, Down, UpNoRatio, DownNoRatio}
@@ -92,7 +92,7 @@ deep = refl
 -- (0.1 is 3602879701896397 / 2 ^ 55, and 9.5 is 19 / 2)
 gaps : Float → List Gap
 unfolding bar rowOf gapsOf ofInt
-gaps l = gapsOf (rowOf (bar 1 (num 10) (num 8)) ∷ rowOf (bar 2 (num 12) (num 11)) ∷ rowOf (bar 3 (num 11) l) ∷ [])
+gaps l = gapsOf 4 (rowOf (bar 1 (num 10) (num 8)) ∷ rowOf (bar 2 (num 12) (num 11)) ∷ rowOf (bar 3 (num 11) l) ∷ [])
 
 twelve : gaps (num 10) ≡ Up (num 10) (num 11) (fin false 3602879701896397 (negsuc 54)) false ∷ NoGap ∷ []
 unfolding gaps ofInt
@@ -102,10 +102,19 @@ twelve-covered : gaps (fin false 19 (negsuc 0)) ≡ Up (num 10) (num 11) (fin fa
 unfolding gaps ofInt
 twelve-covered = refl
 
+-- other places: that ratio to 0 places is 0, and 3/2, 5/4 to 6 places is the float nearest 0.333333
+ratio-to-0 : gapsOf 0 (rowOf (bar 1 (num 10) (num 8)) ∷ rowOf (bar 2 (num 12) (num 11)) ∷ []) ≡ Up (num 10) (num 11) (num 0) false ∷ []
+unfolding bar rowOf gapsOf ofInt
+ratio-to-0 = refl
+
+ratio-to-6 : gapsOf 6 (rowOf (bar 1 (num 3) (num 2)) ∷ rowOf (bar 2 (num 5) (num 4)) ∷ []) ≡ Up (num 3) (num 4) (round binary64 false 333333 1000000) false ∷ []
+unfolding bar rowOf gapsOf ofInt round
+ratio-to-6 = refl
+
 -- Two bars, the first one's high and low and then the second one's, and what the pair is. An up gap divides by the first high, a down gap by the second.
 pairOf : Float → Float → Float → Float → List Gap
 unfolding bar rowOf gapsOf ofInt
-pairOf h1 l1 h2 l2 = gapsOf (rowOf (bar 1 h1 l1) ∷ rowOf (bar 2 h2 l2) ∷ [])
+pairOf h1 l1 h2 l2 = gapsOf 4 (rowOf (bar 1 h1 l1) ∷ rowOf (bar 2 h2 l2) ∷ [])
 
 -- up, from an edge above zero, at zero and below it: 1 / 2^-20 - 1 is 1048575
 up-above : pairOf least (minus 2) (num 2) (num 1) ≡ Up least (num 1) (num 1048575) false ∷ []
@@ -134,7 +143,7 @@ unfolding pairOf ofInt neg
 down-below = refl
 
 -- a gap without a ratio can be covered: -3/-4, -1/-2, then a low below -3; and what is listed of it
-below-covered : gapsOf (rowOf (bar 1 (minus 3) (minus 4)) ∷ rowOf (bar 2 (minus 1) (minus 2)) ∷ rowOf (bar 3 (minus 1) (minus 5)) ∷ []) ≡ UpNoRatio (minus 3) (minus 2) true ∷ NoGap ∷ []
+below-covered : gapsOf 4 (rowOf (bar 1 (minus 3) (minus 4)) ∷ rowOf (bar 2 (minus 1) (minus 2)) ∷ rowOf (bar 3 (minus 1) (minus 5)) ∷ []) ≡ UpNoRatio (minus 3) (minus 2) true ∷ NoGap ∷ []
 unfolding bar rowOf gapsOf ofInt neg
 below-covered = refl
 

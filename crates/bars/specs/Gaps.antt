@@ -1,5 +1,5 @@
--- Document 01's gaps, with document 02's third request: check_gap_info over the kept raw bars, as rows of prices: open, close, high, low, vol, amount.
--- Definitions only.
+-- Document 01's gaps, with document 02's requests two and three: check_gap_info over the kept raw bars, as rows of prices: open, close, high, low, vol, amount.
+-- d is the number of places for ratios. Definitions only.
 use Prim.Native.Nat.{ℕ, _+_, _-_}
 use mathlib.Core.Bool.{Bool, true, false}
 use mathlib.Core.List.{List, [], _∷_, map}
@@ -23,10 +23,10 @@ rowHigh p = getD p 2 nan
 unfoldable pub rowLow : List Float → Float
 rowLow p = getD p 3 nan
 
--- how far the higher edge lies above the lower one, to 4 places: each operation rounds once
-unfoldable pub ratioOf : Float → Float → Float
+-- how far the higher edge lies above the lower one, to d places: each operation rounds once
+unfoldable pub ratioOf : ℕ → Float → Float → Float
 unfolding roundTo sub div
-ratioOf h l = roundTo 4 (sub binary64 (div binary64 h l) (fin false 1 (pos 0)))
+ratioOf d h l = roundTo d (sub binary64 (div binary64 h l) (fin false 1 (pos 0)))
 
 -- an up gap is covered by a bar whose low is below the first bar's high, a down gap by one whose high is above the first bar's low
 unfoldable pub coversUp : List Float → List Float → Bool
@@ -43,43 +43,43 @@ unfolding le
 hasNoRatio l = le l zeroF
 
 -- a gap by its lower edge l, its higher edge h and whether it is covered
-unfoldable pub upIf : Bool → Float → Float → Bool → Gap
+unfoldable pub upIf : Bool → ℕ → Float → Float → Bool → Gap
 unfolding ratioOf
-upIf true l h c = UpNoRatio l h c
-upIf false l h c = Up l h (ratioOf h l) c
+upIf true d l h c = UpNoRatio l h c
+upIf false d l h c = Up l h (ratioOf d h l) c
 
-unfoldable pub upGap : Float → Float → Bool → Gap
+unfoldable pub upGap : ℕ → Float → Float → Bool → Gap
 unfolding upIf hasNoRatio
-upGap l h c = upIf (hasNoRatio l) l h c
+upGap d l h c = upIf (hasNoRatio l) d l h c
 
-unfoldable pub downIf : Bool → Float → Float → Bool → Gap
+unfoldable pub downIf : Bool → ℕ → Float → Float → Bool → Gap
 unfolding ratioOf
-downIf true l h c = DownNoRatio l h c
-downIf false l h c = Down l h (ratioOf h l) c
+downIf true d l h c = DownNoRatio l h c
+downIf false d l h c = Down l h (ratioOf d h l) c
 
-unfoldable pub downGap : Float → Float → Bool → Gap
+unfoldable pub downGap : ℕ → Float → Float → Bool → Gap
 unfolding downIf hasNoRatio
-downGap l h c = downIf (hasNoRatio l) l h c
+downGap d l h c = downIf (hasNoRatio l) d l h c
 
 -- the pair a, b: by whether a's high is below b's low, and whether a's low is above b's high. `right` are the bars from b on.
-unfoldable pub gapIf : Bool → Bool → List Float → List Float → List (List Float) → Gap
+unfoldable pub gapIf : Bool → Bool → ℕ → List Float → List Float → List (List Float) → Gap
 unfolding rowHigh rowLow upGap downGap some-of coversUp coversDown
-gapIf true d a b right = upGap (rowHigh a) (rowLow b) (some-of (coversUp a) right)
-gapIf false true a b right = downGap (rowHigh b) (rowLow a) (some-of (coversDown a) right)
-gapIf false false a b right = NoGap
+gapIf true t d a b right = upGap d (rowHigh a) (rowLow b) (some-of (coversUp a) right)
+gapIf false true d a b right = downGap d (rowHigh b) (rowLow a) (some-of (coversDown a) right)
+gapIf false false d a b right = NoGap
 
-unfoldable pub gapOf : List Float → List Float → List (List Float) → Gap
+unfoldable pub gapOf : ℕ → List Float → List Float → List (List Float) → Gap
 unfolding gapIf lt rowHigh rowLow
-gapOf a b right = gapIf (lt (rowHigh a) (rowLow b)) (lt (rowHigh b) (rowLow a)) a b right
+gapOf d a b right = gapIf (lt (rowHigh a) (rowLow b)) (lt (rowHigh b) (rowLow a)) d a b right
 
 -- ---- all pairs
 
 -- each neighbouring pair, oldest first
-unfoldable pub gapsOf : List (List Float) → List Gap
+unfoldable pub gapsOf : ℕ → List (List Float) → List Gap
 unfolding gapOf
-gapsOf [] = []
-gapsOf (a ∷ []) = []
-gapsOf (a ∷ b ∷ l) = gapOf a b (b ∷ l) ∷ gapsOf (b ∷ l)
+gapsOf d [] = []
+gapsOf d (a ∷ []) = []
+gapsOf d (a ∷ b ∷ l) = gapOf d a b (b ∷ l) ∷ gapsOf d (b ∷ l)
 
 -- ---- an answer's number and values
 
@@ -112,17 +112,17 @@ unfoldable pub pairIf : Bool → Gap → GapAnswer
 pairIf true g = Pair g
 pairIf false g = Missing
 
-unfoldable pub gapAt : List (List Float) → ℕ → GapAnswer
+unfoldable pub gapAt : ℕ → List (List Float) → ℕ → GapAnswer
 unfolding pairIf gapsOf
-gapAt ps i = pairIf (ltb (i + 1) (length ps)) (getD (gapsOf ps) i NoGap)
+gapAt d ps i = pairIf (ltb (i + 1) (length ps)) (getD (gapsOf d ps) i NoGap)
 
 unfoldable pub unlessShort : Bool → GapAnswer → GapAnswer
 unlessShort true r = r
 unlessShort false r = Missing
 
-unfoldable pub gapAmong : List (List Float) → ℕ → ℕ → GapAnswer
+unfoldable pub gapAmong : ℕ → List (List Float) → ℕ → ℕ → GapAnswer
 unfolding unlessShort gapAt
-gapAmong ps n i = unlessShort (leb n (length ps)) (gapAt (take n ps) i)
+gapAmong d ps n i = unlessShort (leb n (length ps)) (gapAt d (take n ps) i)
 
 -- the question's number: 13 where there is no such pair
 unfoldable pub answerNumber : GapAnswer → ℕ
@@ -154,15 +154,15 @@ abbrev pub gapsListed : ℕ → GapColumns → GapsListed
 gapsListed q s = record { number = q; columns = s }
 
 -- by whether n bars are there, and whether each column has a place for each pair: 4, 14, or 0 with the gaps in place
-unfoldable pub listIf : Bool → Bool → Bool → Bool → List (List Float) → ℕ → GapColumns → GapsListed
+unfoldable pub listIf : Bool → Bool → Bool → Bool → ℕ → List (List Float) → ℕ → GapColumns → GapsListed
 unfolding written gapsOf
-listIf false k v c ps n s = gapsListed 4 s
-listIf true false v c ps n s = gapsListed 14 s
-listIf true true false c ps n s = gapsListed 14 s
-listIf true true true false ps n s = gapsListed 14 s
-listIf true true true true ps n s = gapsListed 0 (written (gapsOf (take n ps)) (n - 1) s)
+listIf false k v c d ps n s = gapsListed 4 s
+listIf true false v c d ps n s = gapsListed 14 s
+listIf true true false c d ps n s = gapsListed 14 s
+listIf true true true false d ps n s = gapsListed 14 s
+listIf true true true true d ps n s = gapsListed 0 (written (gapsOf d (take n ps)) (n - 1) s)
 
-unfoldable pub listGaps : List (List Float) → ℕ → GapColumns → GapsListed
+unfoldable pub listGaps : ℕ → List (List Float) → ℕ → GapColumns → GapsListed
 unfolding listIf
-listGaps ps n s =
-    listIf (leb n (length ps)) (leb (n - 1) (length (s .kinds))) (leb (n - 1) (length (s .values))) (leb (n - 1) (length (s .covered))) ps n s
+listGaps d ps n s =
+    listIf (leb n (length ps)) (leb (n - 1) (length (s .kinds))) (leb (n - 1) (length (s .values))) (leb (n - 1) (length (s .covered))) d ps n s

@@ -1,5 +1,5 @@
 // Gaps between neighbouring raw bars, check_gap_info of the source, over the stored rows of prices: open, close, high, low,
-// vol, amount.
+// vol, amount. `places` is the number of places for ratios.
 ghost use mathlib.Core.Path.{_≡_};
 ghost use Prim.Native.Nat.{_+_, _-_, _<_, _≤_};
 ghost use mathlib.Core.List.{[]};
@@ -23,11 +23,11 @@ pub enum GapAnswer {
     Missing,
 }
 
-// How far `high` lies above `low`, to 4 places.
-fn ratio(high: f64, low: f64) -> f64
-    ensures { λ r. ⌜ r ≡ ratioOf high low ⌝ }
+// How far `high` lies above `low`.
+fn ratio(places: usize, high: f64, low: f64) -> f64
+    ensures { λ r. ⌜ r ≡ ratioOf places high low ⌝ }
 {
-    arith::round_to_4_digit(high / low - 1.0)
+    arith::round_to_nth_digit(high / low - 1.0, places)
 }
 
 fn has_no_ratio(low: f64) -> bool
@@ -36,23 +36,23 @@ fn has_no_ratio(low: f64) -> bool
     low <= 0.0
 }
 
-fn up_gap(low: f64, high: f64, covered: bool) -> Gap
-    ensures { λ r. ⌜ r ≡ upGap low high covered ⌝ }
+fn up_gap(places: usize, low: f64, high: f64, covered: bool) -> Gap
+    ensures { λ r. ⌜ r ≡ upGap places low high covered ⌝ }
 {
     if has_no_ratio(low) {
         return Gap::UpNoRatio(low, high, covered);
     }
-    let r = ratio(high, low);
+    let r = ratio(places, high, low);
     Gap::Up(low, high, r, covered)
 }
 
-fn down_gap(low: f64, high: f64, covered: bool) -> Gap
-    ensures { λ r. ⌜ r ≡ downGap low high covered ⌝ }
+fn down_gap(places: usize, low: f64, high: f64, covered: bool) -> Gap
+    ensures { λ r. ⌜ r ≡ downGap places low high covered ⌝ }
 {
     if has_no_ratio(low) {
         return Gap::DownNoRatio(low, high, covered);
     }
-    let r = ratio(high, low);
+    let r = ratio(places, high, low);
     Gap::Down(low, high, r, covered)
 }
 
@@ -93,9 +93,9 @@ fn covered_down(prices: &[[f64; 6]], n: usize, i: usize, from: usize) -> bool
 }
 
 // The pair of bars i and j, which is i + 1, of the first n.
-fn gap_of_pair(prices: &[[f64; 6]], n: usize, i: usize, j: usize) -> Gap
+fn gap_of_pair(places: usize, prices: &[[f64; 6]], n: usize, i: usize, j: usize) -> Gap
     requires { ⌜ (j ≡ i + 1) × (j < n) × (n ≤ length (now prices)) ⌝ }
-    ensures { λ r. ⌜ r ≡ gapOf (getD (now (prices .entry)) i []) (getD (now (prices .entry)) j []) (drop j (take n (now (prices .entry)))) ⌝ }
+    ensures { λ r. ⌜ r ≡ gapOf places (getD (now (prices .entry)) i []) (getD (now (prices .entry)) j []) (drop j (take n (now (prices .entry)))) ⌝ }
 {
     let a = prices[i];
     let b = prices[j];
@@ -105,18 +105,18 @@ fn gap_of_pair(prices: &[[f64; 6]], n: usize, i: usize, j: usize) -> Gap
     let b_low = b[3];
     if a_high < b_low {
         let c = covered_up(prices, n, i, j);
-        return up_gap(a_high, b_low, c);
+        return up_gap(places, a_high, b_low, c);
     }
     if b_high < a_low {
         let c = covered_down(prices, n, i, j);
-        return down_gap(b_high, a_low, c);
+        return down_gap(places, b_high, a_low, c);
     }
     Gap::NoGap
 }
 
 // The pair of bars i and i + 1 of the first n.
-pub fn gap_among(prices: &[[f64; 6]], n: usize, i: usize) -> GapAnswer
-    ensures { λ r. ⌜ r ≡ gapAmong (now (prices .entry)) n i ⌝ }
+pub fn gap_among(places: usize, prices: &[[f64; 6]], n: usize, i: usize) -> GapAnswer
+    ensures { λ r. ⌜ r ≡ gapAmong places (now (prices .entry)) n i ⌝ }
 {
     if prices.len() < n {
         return GapAnswer::Missing;
@@ -127,7 +127,7 @@ pub fn gap_among(prices: &[[f64; 6]], n: usize, i: usize) -> GapAnswer
     if n - 2 < i {
         return GapAnswer::Missing;
     }
-    let g = gap_of_pair(prices, n, i, i + 1);
+    let g = gap_of_pair(places, prices, n, i, i + 1);
     GapAnswer::Pair(g)
 }
 
@@ -179,6 +179,7 @@ pub fn pairs(n: usize) -> usize
 
 // The m pairs of the first n bars, into columns that have a place for each.
 fn write_gaps(
+    places: usize,
     prices: &[[f64; 6]],
     n: usize,
     m: usize,
@@ -187,11 +188,11 @@ fn write_gaps(
     covered: &mut [bool],
 )
     requires { ⌜ (m ≡ n - 1) × (n ≤ length (now prices)) × (m ≤ length (now kinds)) × (m ≤ length (now values)) × (m ≤ length (now covered)) ⌝ }
-    ensures { λ _. ⌜ gapColumns (now (kinds .exit)) (now (values .exit)) (now (covered .exit)) ≡ written (gapsOf (take n (now (prices .entry)))) m (gapColumns (now (kinds .entry)) (now (values .entry)) (now (covered .entry))) ⌝ }
+    ensures { λ _. ⌜ gapColumns (now (kinds .exit)) (now (values .exit)) (now (covered .exit)) ≡ written (gapsOf places (take n (now (prices .entry)))) m (gapColumns (now (kinds .entry)) (now (values .entry)) (now (covered .entry))) ⌝ }
 {
     let mut i: usize = 0;
     while i < m {
-        let g = gap_of_pair(prices, n, i, i + 1);
+        let g = gap_of_pair(places, prices, n, i, i + 1);
         kinds[i] = gap_number(g);
         values[i] = gap_values(g);
         covered[i] = gap_covered(g);
@@ -202,13 +203,14 @@ fn write_gaps(
 // All pairs of the first n bars, oldest first, into lent columns: which kind of gap, its edges and ratio, whether it was covered.
 // Answers 0; 4 where there are no n bars, and 14 where a column has fewer places than there are pairs, and then nothing is written.
 pub fn list_gaps(
+    places: usize,
     prices: &[[f64; 6]],
     n: usize,
     kinds: &mut [u64],
     values: &mut [[f64; 3]],
     covered: &mut [bool],
 ) -> u64
-    ensures { λ r. ⌜ gapsListed r (gapColumns (now (kinds .exit)) (now (values .exit)) (now (covered .exit))) ≡ listGaps (now (prices .entry)) n (gapColumns (now (kinds .entry)) (now (values .entry)) (now (covered .entry))) ⌝ }
+    ensures { λ r. ⌜ gapsListed r (gapColumns (now (kinds .exit)) (now (values .exit)) (now (covered .exit))) ≡ listGaps places (now (prices .entry)) n (gapColumns (now (kinds .entry)) (now (values .entry)) (now (covered .entry))) ⌝ }
 {
     if prices.len() < n {
         return 4;
@@ -223,6 +225,6 @@ pub fn list_gaps(
     if covered.len() < m {
         return 14;
     }
-    write_gaps(prices, n, m, kinds, values, covered);
+    write_gaps(places, prices, n, m, kinds, values, covered);
     0
 }

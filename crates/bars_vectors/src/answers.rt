@@ -122,12 +122,12 @@ fn put_gaps(out: &mut Buffer, o: Buffered, prices: &[[f64; 6]], n: usize) -> Buf
     if n < 2 {
         return put(out, o, b"empty\n");
     }
-    let mut now = put_answer(out, o, bars::gap_among(prices, n, 0));
+    let mut now = put_answer(out, o, bars::gap_among(4, prices, n, 0));
     let m = n - 1;
     let mut i: usize = 1;
     while i < m {
         now = put(out, now, b" | ");
-        now = put_answer(out, now, bars::gap_among(prices, n, i));
+        now = put_answer(out, now, bars::gap_among(4, prices, n, i));
         i += 1;
     }
     put(out, now, b"\n")

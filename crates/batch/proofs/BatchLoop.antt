@@ -275,17 +275,17 @@ same-lengths can o = calls-lengths (o .going .fed .calls) (from-fresh-sizes (can
 
 -- ---- the call
 
-pub batch-refused : (minimum most : ℕ) (m : Stores) (bars : List Bar) (a : FreshAnswer) → a ≡ freshOf minimum most m → (a .refused ≡ 0 → ⊥)
-    → BatchIs minimum most m bars (record { stand = a .stand; fed = 0; failed = a .refused; made = 0; broken = 0; shed = 0 }) m
-batch-refused minimum most m bars a e nz =
+pub batch-refused : (minimum most power ratio : ℕ) (m : Stores) (bars : List Bar) (a : FreshAnswer) → a ≡ freshOf minimum most power ratio m → (a .refused ≡ 0 → ⊥)
+    → BatchIs minimum most power ratio m bars (record { stand = a .stand; fed = 0; failed = a .refused; made = 0; broken = 0; shed = 0 }) m
+batch-refused minimum most power ratio m bars a e nz =
     record {
       refused = λ h. record { failed = ap (λ (z : FreshAnswer). z .refused) e; fed = refl; sums = (refl, refl, refl); stand = ap (λ (z : FreshAnswer). z .stand) e; stores = refl };
       answered = λ z. absurd (nz (ap (λ (z : FreshAnswer). z .refused) e ∙ z));
     }
 
-pub batch-answered : (minimum most : ℕ) (m m' : Stores) (bars : List Bar) (r : BatchAnswer) (a : FreshAnswer) → a ≡ freshOf minimum most m → a .refused ≡ 0
-    → BatchFed (a .stand) m bars r m' → BatchIs minimum most m bars r m'
-batch-answered minimum most m m' bars r a e z f =
+pub batch-answered : (minimum most power ratio : ℕ) (m m' : Stores) (bars : List Bar) (r : BatchAnswer) (a : FreshAnswer) → a ≡ freshOf minimum most power ratio m → a .refused ≡ 0
+    → BatchFed (a .stand) m bars r m' → BatchIs minimum most power ratio m bars r m'
+batch-answered minimum most power ratio m m' bars r a e z f =
     record {
       refused = λ nz. absurd (nz (ap (λ (x : FreshAnswer). x .refused) (sym e) ∙ z));
       answered = λ h. subst (λ (x : FreshAnswer). BatchFed (x .stand) m bars r m') e f;
@@ -305,11 +305,11 @@ count-is s =
     ∙ ap (λ (j : ℕ). min j (length (s .prices))) (zip-min barOf (s .times) (s .ids))
 
 -- what the loop asks
-pub can-batch : (minimum most : ℕ) (m : Stores) (bars : RawStore) (n : ℕ) (a : FreshAnswer) → a ≡ freshOf minimum most m → a .refused ≡ 0
+pub can-batch : (minimum most power ratio : ℕ) (m : Stores) (bars : RawStore) (n : ℕ) (a : FreshAnswer) → a ≡ freshOf minimum most power ratio m → a .refused ≡ 0
     → n ≡ min (min (length (bars .times)) (length (bars .ids))) (length (bars .prices)) → CanBatch (a .stand) m bars n
-can-batch minimum most m bars n a e z c =
+can-batch minimum most power ratio m bars n a e z c =
     record {
-      begun = subst (λ (x : FreshAnswer). FromFresh (x .stand) m) (sym e) (from-fresh-begins minimum most m (ap (λ (x : FreshAnswer). x .refused) (sym e) ∙ z));
+      begun = subst (λ (x : FreshAnswer). FromFresh (x .stand) m) (sym e) (from-fresh-begins minimum most power ratio m (ap (λ (x : FreshAnswer). x .refused) (sym e) ∙ z));
       room = record { times = omega arith; ids = omega arith; prices = omega arith };
       count = count-is bars ∙ sym c;
     }

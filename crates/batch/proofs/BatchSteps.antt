@@ -39,6 +39,6 @@ loop-done can o h = onward-end can o (λ q. omega arith)
 
 -- ---- the call
 
-pub call-can : (minimum most : ℕ) (m : Stores) (bars : RawStore) (a : FreshAnswer) (k n : ℕ) → a ≡ freshOf minimum most m → a .refused ≡ 0
+pub call-can : (minimum most power ratio : ℕ) (m : Stores) (bars : RawStore) (a : FreshAnswer) (k n : ℕ) → a ≡ freshOf minimum most power ratio m → a .refused ≡ 0
     → k ≡ min (length (bars .times)) (length (bars .ids)) → n ≡ min k (length (bars .prices)) → CanBatch (a .stand) m bars n
-call-can minimum most m bars a k n e z ek en = can-batch minimum most m bars n a e z (en ∙ ap (λ (j : ℕ). min j (length (bars .prices))) ek)
+call-can minimum most power ratio m bars a k n e z ek en = can-batch minimum most power ratio m bars n a e z (en ∙ ap (λ (j : ℕ). min j (length (bars .prices))) ek)

@@ -37,17 +37,19 @@ pub record BatchFed (s : Stand) (m : Stores) (bars : List Bar) (r : BatchAnswer)
   pub number : (b : Bar) (l : List Bar) → drop (r .fed) bars ≡ b ∷ l → r .failed ≡ failedBy (r .stand) m' b
 
 -- the batch call with stores m answers r and leaves the stores m'
-pub record BatchIs (minimum most : ℕ) (m : Stores) (bars : List Bar) (r : BatchAnswer) (m' : Stores) : Type 0 where
-  pub refused : ((freshOf minimum most m) .refused ≡ 0 → ⊥) → BatchRefused ((freshOf minimum most m) .refused) ((freshOf minimum most m) .stand) m r m'
-  pub answered : (freshOf minimum most m) .refused ≡ 0 → BatchFed ((freshOf minimum most m) .stand) m bars r m'
+pub record BatchIs (minimum most power ratio : ℕ) (m : Stores) (bars : List Bar) (r : BatchAnswer) (m' : Stores) : Type 0 where
+  pub refused : ((freshOf minimum most power ratio m) .refused ≡ 0 → ⊥) → BatchRefused ((freshOf minimum most power ratio m) .refused) ((freshOf minimum most power ratio m) .stand) m r m'
+  pub answered : (freshOf minimum most power ratio m) .refused ≡ 0 → BatchFed ((freshOf minimum most power ratio m) .stand) m bars r m'
 
 -- the list of feed calls that it is: the claims of PortClaims are claims on it
-unfoldable pub callsOf : (minimum most : ℕ) {m m' : Stores} {bars : List Bar} {r : BatchAnswer}
-    → BatchFed ((freshOf minimum most m) .stand) m bars r m' → FreshCalls
-callsOf minimum most {m = m} {m' = m'} {bars = bars} {r = r} f =
+unfoldable pub callsOf : (minimum most power ratio : ℕ) {m m' : Stores} {bars : List Bar} {r : BatchAnswer}
+    → BatchFed ((freshOf minimum most power ratio m) .stand) m bars r m' → FreshCalls
+callsOf minimum most power ratio {m = m} {m' = m'} {bars = bars} {r = r} f =
     record {
       minimum = minimum;
       most = most;
+      power = power;
+      ratio = ratio;
       lent = m;
       bars = take (r .fed) bars;
       sums = sumsOf r;

@@ -230,6 +230,8 @@ fn fewer(a: usize, b: usize) -> usize
 pub fn feed_all(
     minimum: usize,
     most: usize,
+    power: usize,
+    ratio: usize,
     rt: &mut [i64],
     ri: &mut [i32],
     rp: &mut [[f64; 6]],
@@ -249,11 +251,13 @@ pub fn feed_all(
     bi: &[i32],
     bp: &[[f64; 6]],
 ) -> BatchAnswer
-    ensures { λ r. ⌜ BatchIs minimum most (before rt ri rp ut ui up uc ue st si sp sc se fs fp) (rawBars (rawBefore bt bi bp)) r (after rt ri rp ut ui up uc ue st si sp sc se fs fp) ⌝ }
+    ensures { λ r. ⌜ BatchIs minimum most power ratio (before rt ri rp ut ui up uc ue st si sp sc se fs fp) (rawBars (rawBefore bt bi bp)) r (after rt ri rp ut ui up uc ue st si sp sc se fs fp) ⌝ }
 {
     let a = sound::fresh(
         minimum,
         most,
+        power,
+        ratio,
         rt,
         ri,
         rp,

@@ -137,24 +137,24 @@ and-both : (a b : Bool) → (a && b) ≡ true → (a ≡ true) × (b ≡ true)
 and-both true b h = (refl, h)
 and-both false b h = absurd (false≢true h)
 
-module _ (minimum most : ℕ) (ns cs ss : List (List ℕ)) (m : Stores) where
+module _ (minimum most power ratio : ℕ) (ns cs ss : List (List ℕ)) (m : Stores) where
   places-by : (n : ℕ) (t : Bool) → failedFirstIf n t ≡ 0 → t ≡ true
   unfolding failedFirstIf
   places-by zero true h = refl
   places-by zero false h = let w : ⊥ = omega (arith, h) in absurd w
   places-by (suc n) t h = let w : ⊥ = omega (arith, h) in absurd w
 
-  pub places : failedFirst (freshOf minimum most m) ns cs ss ≡ 0 → (1 ≤ length ns) × (2 ≤ length cs) × (1 ≤ length ss)
+  pub places : failedFirst (freshOf minimum most power ratio m) ns cs ss ≡ 0 → (1 ≤ length ns) × (2 ≤ length cs) × (1 ≤ length ss)
   unfolding failedFirst
   places h =
-      let p = and-both (rowsThere ns cs) (leb 1 (length ss)) (places-by ((freshOf minimum most m) .refused) (rowsThere ns cs && leb 1 (length ss)) h) in
+      let p = and-both (rowsThere ns cs) (leb 1 (length ss)) (places-by ((freshOf minimum most power ratio m) .refused) (rowsThere ns cs && leb 1 (length ss)) h) in
       let t = there ns cs (p .0) in
       (t .0, t .1, leb-true 1 (length ss) (p .1))
 
-  pub refused-first : (bars : List Bar) (f : ℕ) → f ≡ failedFirst (freshOf minimum most m) ns cs ss → (f ≡ 0 → ⊥)
-      → BatchHanded minimum most ns cs ss m bars f ns cs ss m
+  pub refused-first : (bars : List Bar) (f : ℕ) → f ≡ failedFirst (freshOf minimum most power ratio m) ns cs ss → (f ≡ 0 → ⊥)
+      → BatchHanded minimum most power ratio ns cs ss m bars f ns cs ss m
   refused-first bars f e h = record { before = λ k. (e, refl, refl, refl, refl); fed = λ z. absurd (h (e ∙ z)) }
 
-  pub all-then : {m' : Stores} {bars : List Bar} {f : ℕ} {ns' cs' ss' : List (List ℕ)} → failedFirst (freshOf minimum most m) ns cs ss ≡ 0
-      → SumsHanded minimum most ns cs ss m bars f ns' cs' ss' m' → BatchHanded minimum most ns cs ss m bars f ns' cs' ss' m'
+  pub all-then : {m' : Stores} {bars : List Bar} {f : ℕ} {ns' cs' ss' : List (List ℕ)} → failedFirst (freshOf minimum most power ratio m) ns cs ss ≡ 0
+      → SumsHanded minimum most power ratio ns cs ss m bars f ns' cs' ss' m' → BatchHanded minimum most power ratio ns cs ss m bars f ns' cs' ss' m'
   all-then z h = record { before = λ k. absurd (k z); fed = λ q. h }

@@ -1,6 +1,6 @@
 -- What the calls under C names hand over. Between two calls a stand lies packed in the first row of `numbers` and the first two of `counts` (strokes, Packed); what a feed made, broke and
 -- shed goes to the first row of `events`, and the sums of a list of bars, with the number of bars accepted, to the first row of `sums`. All other rows stay. A fresh
--- analyzer and a feed that are refused write nothing, nor does a list of bars that fails questions 1 to 3 or 14. Definitions only.
+-- analyzer and a feed that are refused write nothing, nor does a list of bars that fails questions 1, 2, 17, 3 or 14. Definitions only.
 use Prim.Native.Nat.{ℕ, zero, suc}
 use mathlib.Core.Path.{_≡_}
 use mathlib.Core.Bool.{Bool, true, false, _&&_}
@@ -34,7 +34,7 @@ pub record StandHanded : Type 0 where
 abbrev pub standHanded : ℕ → List (List ℕ) → List (List ℕ) → StandHanded
 standHanded f ns cs = record { number = f; numbers = ns; counts = cs }
 
--- ---- a fresh analyzer: questions 1 to 3, then 14, whether its stand has a place
+-- ---- a fresh analyzer: questions 1, 2, 17 and 3, then 14, whether its stand has a place
 
 unfoldable pub freshHandedIf : ℕ → Bool → Stand → List (List ℕ) → List (List ℕ) → StandHanded
 unfolding numbersWith countsWith
@@ -72,7 +72,7 @@ pub record UpdateHanded (ns cs es : List (List ℕ)) (m : Stores) (b : Bar) (f :
   pub before : (failedBefore ns cs es m ≡ 0 → ⊥) → (f ≡ failedBefore ns cs es m) × (ns' ≡ ns) × (cs' ≡ cs) × (es' ≡ es) × (m' ≡ m)
   pub fed : failedBefore ns cs es m ≡ 0 → FedHanded ns cs es m b f ns' cs' es' m'
 
--- ---- a list of bars: questions 1 to 3, then 14, whether stand and sums have a place, then what the batch call answers
+-- ---- a list of bars: questions 1, 2, 17 and 3, then 14, whether stand and sums have a place, then what the batch call answers
 
 unfoldable pub failedFirstIf : ℕ → Bool → ℕ
 failedFirstIf zero true = 0
@@ -84,15 +84,15 @@ unfolding failedFirstIf rowsThere
 failedFirst a ns cs ss = failedFirstIf (a .refused) (rowsThere ns cs && leb 1 (length ss))
 
 -- the answer r of the batch call, whose number is f, is handed over
-pub record SumsHanded (minimum most : ℕ) (ns cs ss : List (List ℕ)) (m : Stores) (bars : List Bar) (f : ℕ) (ns' cs' ss' : List (List ℕ)) (m' : Stores) : Type 0 where
+pub record SumsHanded (minimum most power ratio : ℕ) (ns cs ss : List (List ℕ)) (m : Stores) (bars : List Bar) (f : ℕ) (ns' cs' ss' : List (List ℕ)) (m' : Stores) : Type 0 where
   pub answer : BatchAnswer
-  pub batch : BatchIs minimum most m bars answer m'
+  pub batch : BatchIs minimum most power ratio m bars answer m'
   pub number : f ≡ answer .failed
   pub numbers : ns' ≡ numbersWith (answer .stand) ns
   pub counts : cs' ≡ countsWith (answer .stand) cs
   pub sums : ss' ≡ set ss 0 (answer .made ∷ answer .broken ∷ answer .shed ∷ answer .fed ∷ [])
 
-pub record BatchHanded (minimum most : ℕ) (ns cs ss : List (List ℕ)) (m : Stores) (bars : List Bar) (f : ℕ) (ns' cs' ss' : List (List ℕ)) (m' : Stores) : Type 0 where
-  pub before : (failedFirst (freshOf minimum most m) ns cs ss ≡ 0 → ⊥)
-      → (f ≡ failedFirst (freshOf minimum most m) ns cs ss) × (ns' ≡ ns) × (cs' ≡ cs) × (ss' ≡ ss) × (m' ≡ m)
-  pub fed : failedFirst (freshOf minimum most m) ns cs ss ≡ 0 → SumsHanded minimum most ns cs ss m bars f ns' cs' ss' m'
+pub record BatchHanded (minimum most power ratio : ℕ) (ns cs ss : List (List ℕ)) (m : Stores) (bars : List Bar) (f : ℕ) (ns' cs' ss' : List (List ℕ)) (m' : Stores) : Type 0 where
+  pub before : (failedFirst (freshOf minimum most power ratio m) ns cs ss ≡ 0 → ⊥)
+      → (f ≡ failedFirst (freshOf minimum most power ratio m) ns cs ss) × (ns' ≡ ns) × (cs' ≡ cs) × (ss' ≡ ss) × (m' ≡ m)
+  pub fed : failedFirst (freshOf minimum most power ratio m) ns cs ss ≡ 0 → SumsHanded minimum most power ratio ns cs ss m bars f ns' cs' ss' m'

@@ -1,4 +1,4 @@
-// The calls. A fresh analyzer and a feed that answer a number above 0 leave all lent memory as it was, and so does a list of bars that fails questions 1 to 3 or 14; behind these it hands over
+// The calls. A fresh analyzer and a feed that answer a number above 0 leave all lent memory as it was, and so does a list of bars that fails questions 1, 2, 17, 3 or 14; behind these it hands over
 // stand and sums whatever it answers. Rows that are missing are answered by a number too: 4 where no stand can be read, 14 where an answer has no place.
 ghost use mathlib.Core.Path.{_≡_};
 ghost use Prim.Native.Nat.{_≤_};
@@ -19,12 +19,14 @@ use strokes::pack;
 use strokes::rows_there;
 use strokes::unpack;
 
-// A fresh analyzer for the lent stores, whose stand is packed: questions 1 to 3, then 14.
+// A fresh analyzer for the lent stores, whose stand is packed: questions 1, 2, 17 and 3, then 14. `power` and `ratio` are the places for power and for ratios.
 #[no_mangle]
 pub extern "C" fn czsc_fresh(
     minimum: usize,
     most: usize,
-    numbers: &mut [[usize; 8]],
+    power: usize,
+    ratio: usize,
+    numbers: &mut [[usize; 10]],
     counts: &mut [[u32; 65]],
     rt: &[i64],
     ri: &[i32],
@@ -42,11 +44,13 @@ pub extern "C" fn czsc_fresh(
     fs: &[[i64; 6]],
     fp: &[[f64; 18]],
 ) -> u64
-    ensures { λ f. ⌜ standHanded f (now (numbers .exit)) (now (counts .exit)) ≡ freshHanded (freshOf minimum most (before rt ri rp ut ui up uc ue st si sp sc se fs fp)) (now (numbers .entry)) (now (counts .entry)) ⌝ }
+    ensures { λ f. ⌜ standHanded f (now (numbers .exit)) (now (counts .exit)) ≡ freshHanded (freshOf minimum most power ratio (before rt ri rp ut ui up uc ue st si sp sc se fs fp)) (now (numbers .entry)) (now (counts .entry)) ⌝ }
 {
     let r = sound::fresh(
         minimum,
         most,
+        power,
+        ratio,
         rt,
         ri,
         rp,
@@ -77,7 +81,7 @@ pub extern "C" fn czsc_fresh(
 
 // What a feed is refused with before the bar is looked at: 4 where no stand is there or it is not sound, 14 where its answer has no place.
 fn failed_before(
-    numbers: &[[usize; 8]],
+    numbers: &[[usize; 10]],
     counts: &[[u32; 65]],
     events: &[[u64; 3]],
     rt: &[i64],
@@ -130,7 +134,7 @@ fn failed_before(
 
 // The feed of a packed stand that is sound, with a place for its answer.
 fn update_packed(
-    numbers: &mut [[usize; 8]],
+    numbers: &mut [[usize; 10]],
     counts: &mut [[u32; 65]],
     events: &mut [[u64; 3]],
     rt: &mut [i64],
@@ -180,7 +184,7 @@ fn update_packed(
 // A feed of one bar to the packed stand: 4, 14, then questions 5 to 12.
 #[no_mangle]
 pub extern "C" fn czsc_update_bar(
-    numbers: &mut [[usize; 8]],
+    numbers: &mut [[usize; 10]],
     counts: &mut [[u32; 65]],
     events: &mut [[u64; 3]],
     rt: &mut [i64],
@@ -265,11 +269,13 @@ pub extern "C" fn czsc_update_bar(
     )
 }
 
-// What a list of bars is refused with before the first one is looked at: questions 1 to 3, 14 where stand or sums have no place.
+// What a list of bars is refused with before the first one is looked at: questions 1, 2, 17 and 3, and 14 where stand or sums have no place.
 fn failed_first(
     minimum: usize,
     most: usize,
-    numbers: &[[usize; 8]],
+    power: usize,
+    ratio: usize,
+    numbers: &[[usize; 10]],
     counts: &[[u32; 65]],
     sums: &[[u64; 4]],
     rt: &[i64],
@@ -288,11 +294,13 @@ fn failed_first(
     fs: &[[i64; 6]],
     fp: &[[f64; 18]],
 ) -> u64
-    ensures { λ r. ⌜ r ≡ failedFirst (freshOf minimum most (before rt ri rp ut ui up uc ue st si sp sc se fs fp)) (now (numbers .entry)) (now (counts .entry)) (now (sums .entry)) ⌝ }
+    ensures { λ r. ⌜ r ≡ failedFirst (freshOf minimum most power ratio (before rt ri rp ut ui up uc ue st si sp sc se fs fp)) (now (numbers .entry)) (now (counts .entry)) (now (sums .entry)) ⌝ }
 {
     let r = sound::fresh(
         minimum,
         most,
+        power,
+        ratio,
         rt,
         ri,
         rp,
@@ -326,7 +334,9 @@ fn failed_first(
 fn feed_packed(
     minimum: usize,
     most: usize,
-    numbers: &mut [[usize; 8]],
+    power: usize,
+    ratio: usize,
+    numbers: &mut [[usize; 10]],
     counts: &mut [[u32; 65]],
     sums: &mut [[u64; 4]],
     rt: &mut [i64],
@@ -349,11 +359,13 @@ fn feed_packed(
     bp: &[[f64; 6]],
 ) -> u64
     requires { ⌜ (1 ≤ length (now numbers)) × (2 ≤ length (now counts)) × (1 ≤ length (now sums)) ⌝ }
-    ensures { λ f. ⌜ SumsHanded minimum most (now (numbers .entry)) (now (counts .entry)) (now (sums .entry)) (before rt ri rp ut ui up uc ue st si sp sc se fs fp) (rawBars (rawBefore bt bi bp)) f (now (numbers .exit)) (now (counts .exit)) (now (sums .exit)) (after rt ri rp ut ui up uc ue st si sp sc se fs fp) ⌝ }
+    ensures { λ f. ⌜ SumsHanded minimum most power ratio (now (numbers .entry)) (now (counts .entry)) (now (sums .entry)) (before rt ri rp ut ui up uc ue st si sp sc se fs fp) (rawBars (rawBefore bt bi bp)) f (now (numbers .exit)) (now (counts .exit)) (now (sums .exit)) (after rt ri rp ut ui up uc ue st si sp sc se fs fp) ⌝ }
 {
     let r = batch::feed_all(
         minimum,
         most,
+        power,
+        ratio,
         rt,
         ri,
         rp,
@@ -376,12 +388,14 @@ fn feed_packed(
     hand_over_all(r, numbers, counts, sums)
 }
 
-// A list of bars fed to a fresh analyzer: questions 1 to 3, then 14, then what the batch call answers. The rows then tell how far it came.
+// A list of bars fed to a fresh analyzer: questions 1, 2, 17 and 3, then 14, then what the batch call answers. The rows then tell how far it came.
 #[no_mangle]
 pub extern "C" fn czsc_feed_all(
     minimum: usize,
     most: usize,
-    numbers: &mut [[usize; 8]],
+    power: usize,
+    ratio: usize,
+    numbers: &mut [[usize; 10]],
     counts: &mut [[u32; 65]],
     sums: &mut [[u64; 4]],
     rt: &mut [i64],
@@ -403,11 +417,13 @@ pub extern "C" fn czsc_feed_all(
     bi: &[i32],
     bp: &[[f64; 6]],
 ) -> u64
-    ensures { λ f. ⌜ BatchHanded minimum most (now (numbers .entry)) (now (counts .entry)) (now (sums .entry)) (before rt ri rp ut ui up uc ue st si sp sc se fs fp) (rawBars (rawBefore bt bi bp)) f (now (numbers .exit)) (now (counts .exit)) (now (sums .exit)) (after rt ri rp ut ui up uc ue st si sp sc se fs fp) ⌝ }
+    ensures { λ f. ⌜ BatchHanded minimum most power ratio (now (numbers .entry)) (now (counts .entry)) (now (sums .entry)) (before rt ri rp ut ui up uc ue st si sp sc se fs fp) (rawBars (rawBefore bt bi bp)) f (now (numbers .exit)) (now (counts .exit)) (now (sums .exit)) (after rt ri rp ut ui up uc ue st si sp sc se fs fp) ⌝ }
 {
     let failed = failed_first(
         minimum,
         most,
+        power,
+        ratio,
         numbers,
         counts,
         sums,
@@ -433,6 +449,8 @@ pub extern "C" fn czsc_feed_all(
     feed_packed(
         minimum,
         most,
+        power,
+        ratio,
         numbers,
         counts,
         sums,

@@ -35,7 +35,7 @@ fn put_sums(sums: &mut [[u64; 4]], made: u64, broken: u64, shed: u64, fed: usize
 // What a feed answered; a refusal writes nothing.
 pub fn hand_over(
     r: FeedAnswer,
-    numbers: &mut [[usize; 8]],
+    numbers: &mut [[usize; 10]],
     counts: &mut [[u32; 65]],
     events: &mut [[u64; 3]],
 ) -> u64
@@ -55,7 +55,7 @@ pub fn hand_over(
 // What the batch call answered.
 pub fn hand_over_all(
     r: BatchAnswer,
-    numbers: &mut [[usize; 8]],
+    numbers: &mut [[usize; 10]],
     counts: &mut [[u32; 65]],
     sums: &mut [[u64; 4]],
 ) -> u64

@@ -1,6 +1,6 @@
 -- What demand 3 claims of kept strokes does not see the elements of fractals' bars: it holds of strokes without them where it holds of the strokes.
 -- Assumes nothing.
-use Prim.Native.Nat.{_%_}
+use Prim.Native.Nat.{ℕ, _%_}
 use mathlib.Core.Path.{_≡_, refl, ap, sym, _∙_, subst}
 use mathlib.Core.List.{List, [], _∷_, map}
 use mathlib.Core.Logic.{_⊎_, inl, inr}
@@ -79,8 +79,8 @@ inside-bare b h =
     let f = fakes-of-bare (b .start) (b .end) (b .fractals) (h .fake) in
     record {
       fake = f;
-      count = fakes-count (bareFractal (b .start)) (bareFractal (b .end)) (map bareFractal (b .fractals)) f;
-      told = fakes-told (bareFractal (b .start)) (bareFractal (b .end)) (map bareFractal (b .fractals)) f;
+      count = λ d. fakes-count d (bareFractal (b .start)) (bareFractal (b .end)) (map bareFractal (b .fractals)) f;
+      told = λ d. fakes-told d (bareFractal (b .start)) (bareFractal (b .end)) (map bareFractal (b .fractals)) f;
       extreme = extreme-bare (b .end) (b .fractals) (h .extreme);
     }
 
@@ -89,22 +89,22 @@ all-inside-bare [] h = tt
 all-inside-bare (b ∷ bs) h = (inside-bare b (h .0), all-inside-bare bs (h .1))
 
 -- the fake strokes that are answered are the same
-fake-from-bare : (m : Mark) (f : Fake) → fakeFrom m (bareFake f) ≡ fakeFrom m f
+fake-from-bare : (d : ℕ) (m : Mark) (f : Fake) → fakeFrom d m (bareFake f) ≡ fakeFrom d m f
 unfolding fakeFrom fakeWith fakeDirection timeOf bareFractal bareBar
-fake-from-bare D f = refl
-fake-from-bare G f = refl
+fake-from-bare d D f = refl
+fake-from-bare d G f = refl
 
-fake-of-bare : (f : Fake) → fakeOf (bareFake f) ≡ fakeOf f
+fake-of-bare : (d : ℕ) (f : Fake) → fakeOf d (bareFake f) ≡ fakeOf d f
 unfolding fakeOf bareFractal
-fake-of-bare f = fake-from-bare (f .first .mark) f
+fake-of-bare d f = fake-from-bare d (f .first .mark) f
 
-answered-bare : (l : List Fake) → map fakeOf (map bareFake l) ≡ map fakeOf l
-answered-bare [] = refl
-answered-bare (f ∷ l) = λ i. fake-of-bare f i ∷ answered-bare l i
+answered-bare : (d : ℕ) (l : List Fake) → map (fakeOf d) (map bareFake l) ≡ map (fakeOf d) l
+answered-bare d [] = refl
+answered-bare d (f ∷ l) = λ i. fake-of-bare d f i ∷ answered-bare d l i
 
-pub create-bare : (l : List Fractal) → createFakeBis (map bareFractal l) ≡ createFakeBis l
+pub create-bare : (d : ℕ) (l : List Fractal) → createFakeBis d (map bareFractal l) ≡ createFakeBis d l
 unfolding createFakeBis
-create-bare l = ap (map fakeOf) (fakes-bare l) ∙ answered-bare (fakes l)
+create-bare d l = ap (map (fakeOf d)) (fakes-bare l) ∙ answered-bare d (fakes l)
 
 -- ---- neighbours
 

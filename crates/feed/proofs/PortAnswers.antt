@@ -119,12 +119,13 @@ fakes-told r k i d h =
     let x = exists-is (keptOf r) i ((passed-if (question4 (r .stand) (r .stores)) (exists (keptOf r) i) (a .passed)) .1) in
     let f = found Inside (keptOf r) i x k in
     let b = f .item in
-    let e : fakesOf (r .stand) (r .stores) i ≡ createFakeBis (b .fractals) = ap (λ (o : Option Stroke). createFakeBis (fractalsOf o)) (f .at) in
+    let places = r .stand .«power_places» in
+    let e : fakesOf (r .stand) (r .stores) i ≡ createFakeBis places (b .fractals) = ap (λ (o : Option Stroke). createFakeBis places (fractalsOf o)) (f .at) in
     let t = a .told ∙ e in
     record {
       stroke = b;
       at = f .at;
-      odd = ap (λ (n : ℕ). n % 2) (a .count ∙ ap length e) ∙ f .has .count;
+      odd = ap (λ (n : ℕ). n % 2) (a .count ∙ ap length e) ∙ f .has .count places;
       fakes = t;
-      told = subst (λ (l : List FakeStroke). FakeChain (timeOf (b .start)) (directionOf (b .start .mark)) l (timeOf (b .end))) (sym t) (f .has .told);
+      told = subst (λ (l : List FakeStroke). FakeChain (timeOf (b .start)) (directionOf (b .start .mark)) l (timeOf (b .end))) (sym t) (f .has .told places);
     }

@@ -7,20 +7,22 @@ use lib.ListN.{length, length-map}
 use lib.Dec.{T}
 use Rattle.bars.specs.declared.Bar.{Bar}
 use Rattle.bars.specs.Lists.{All, join}
-use Rattle.machine.specs.Stand.{State}
+use Rattle.machine.specs.Stand.{Settings, State}
 use Rattle.machine.specs.Feed.{Events}
 use Rattle.machine.specs.Calls.{calls, eachLater}
 use Rattle.machine.specs.KeptStrokes.{MeetAll}
 use Rattle.machine.specs.Reached.{Later}
 use Rattle.machine.proofs.ByPlace.{search-by-time}
 use Rattle.machine.proofs.ReachedSound.{reached-by-time}
-use Rattle.strokes.specs.StateRead.{bareStroke, bareState}
+use Rattle.strokes.specs.StateRead.{settingsOf, bareStroke, bareState}
+use Rattle.sound.proofs.FreshLaws.{fresh-places}
 use Rattle.zones.specs.Zones.{Zone, summary, getZsSeq}
 use Rattle.zones.specs.Claims.{kept, Inside}
 use Rattle.feed.specs.PortCalls.{acceptedOf, FreshCalls, refusedWith}
 use Rattle.feed.specs.StrokesLeft.{Left}
 use Rattle.feed.specs.PortClaims.{keptOf, machineStrokes, bareEvents, PortDemand3}
 use Rattle.zones.proofs.Demand3.{demand3}
+use Rattle.feed.proofs.PortStays.{settings-stay}
 use Rattle.feed.proofs.PortMachine.{settings, machine, events, unheard, like}
 use Rattle.feed.proofs.PortReached.{reached-asks, reached-later, reached-shallow}
 use Rattle.feed.proofs.PortRaw.{newest, none-accepted, none-held, named}
@@ -38,6 +40,13 @@ like-later : (r : FreshCalls) → T (eachLater none (acceptedOf (r .calls))) →
 like-later r l = subst (λ (z : List Bar). T (eachLater none z)) ((like r) .taken) l
 
 -- ---- the claims
+
+places : (r : FreshCalls) → refusedWith r ≡ 0 → (r .stand .«power_places» ≡ r .power) × (r .stand .«ratio_places» ≡ r .ratio)
+unfolding settingsOf
+places r z =
+    let e = settings-stay (r .calls) in
+    let f = fresh-places (r .minimum) (r .most) (r .power) (r .ratio) (r .lent) z in
+    (ap (λ (c : Settings). c .powerPlaces) e ∙ f .0, ap (λ (c : Settings). c .ratioPlaces) e ∙ f .1)
 
 sums : (r : FreshCalls) → r .sums .made ≡ length (keptOf r) + r .sums .broken + r .sums .shed
 sums r =
@@ -85,6 +94,7 @@ port-demand3 =
       by-time = search-by-time;
       by-time-reached = reached-by-time;
       idle = λ r h. ((unheard r h) .stand, (unheard r h) .stores, (unheard r h) .events);
+      places = places;
       sums = sums;
       left = left;
       left-only = λ r h l g. only-left g (left r h) refl;

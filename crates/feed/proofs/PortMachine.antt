@@ -28,10 +28,10 @@ settings r = settingsOf (begun r)
 -- the counts of a fresh stand fit the stores that it was made for
 pub fresh-sized : (r : FreshCalls) → refusedWith r ≡ 0 → T (sized (begun r) (r .lent))
 fresh-sized r z =
-    and-l (sized (begun r) (r .lent)) (sound (settings r) (stateOf (begun r) (r .lent))) (subst T (sym (fresh-sound (r .minimum) (r .most) (r .lent) z)) tt)
+    and-l (sized (begun r) (r .lent)) (sound (settings r) (stateOf (begun r) (r .lent))) (subst T (sym (fresh-sound (r .minimum) (r .most) (r .power) (r .ratio) (r .lent) z)) tt)
 
 pub followed : (r : FreshCalls) → refusedWith r ≡ 0 → FollowedAll (settings r) fresh none-yet (r .bars) (r .sums) (acceptedOf (r .calls)) (r .stand) (r .stores)
-followed r z = follows (r .calls) fresh none-yet (fresh-sized r z) (fresh-state (r .minimum) (r .most) (r .lent) ∙ sym fresh-bare)
+followed r z = follows (r .calls) fresh none-yet (fresh-sized r z) (fresh-state (r .minimum) (r .most) (r .power) (r .ratio) (r .lent) ∙ sym fresh-bare)
 
 pub machine : (r : FreshCalls) → refusedWith r ≡ 0 → stateOf (r .stand) (r .stores) ≡ bareState ((calls (settings r) (r .bars)) .state)
 unfolding calls start
@@ -43,7 +43,7 @@ events r z = sym (none-added (r .sums)) ∙ (followed r z) .events
 
 pub unheard : (r : FreshCalls) → (refusedWith r ≡ 0 → ⊥) → Idle (r .calls)
 unfolding question4
-unheard r z = idle (r .calls) (fresh-unsound (r .minimum) (r .most) (r .lent) z)
+unheard r z = idle (r .calls) (fresh-unsound (r .minimum) (r .most) (r .power) (r .ratio) (r .lent) z)
 
 -- ---- a list of the machine's calls that leaves the same
 
@@ -60,7 +60,7 @@ like-none r z =
     let j = unheard r z in
     record {
       bars = [];
-      state = (λ i. stateOf (j .stand i) (j .stores i)) ∙ fresh-state (r .minimum) (r .most) (r .lent) ∙ sym fresh-bare;
+      state = (λ i. stateOf (j .stand i) (j .stores i)) ∙ fresh-state (r .minimum) (r .most) (r .power) (r .ratio) (r .lent) ∙ sym fresh-bare;
       sums = j .events;
       taken = j .taken;
     }

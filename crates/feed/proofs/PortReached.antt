@@ -48,7 +48,7 @@ pub reached-asks : (r : FreshCalls) → refusedWith r ≡ 0
 unfolding question4 storesSound
 reached-asks r z =
     let c = settingsOf (begun r) in
-    let f = fresh-passes (begun r) (r .lent) (fresh-sound (r .minimum) (r .most) (r .lent) z) in
+    let f = fresh-passes (begun r) (r .lent) (fresh-sound (r .minimum) (r .most) (r .power) (r .ratio) (r .lent) z) in
     let e = machine r z in
     (λ i. is-true (sized (r .stand) (r .stores)) (sizes-stay (r .calls) (f .0)) i && sound (settings-stay (r .calls) i) (e i))
     ∙ asks-newest c ((calls c (r .bars)) .state) (reached-sound .every c (f .1) (r .bars))
@@ -56,7 +56,7 @@ reached-asks r z =
 
 pub reached-sizes : (r : FreshCalls) → refusedWith r ≡ 0 → T (sized (r .stand) (r .stores))
 reached-sizes r z =
-    sizes-stay (r .calls) ((fresh-passes (begun r) (r .lent) (fresh-sound (r .minimum) (r .most) (r .lent) z)) .0)
+    sizes-stay (r .calls) ((fresh-passes (begun r) (r .lent) (fresh-sound (r .minimum) (r .most) (r .power) (r .ratio) (r .lent) z)) .0)
 
 -- ---- where no accepted bar repeats a time, or no element is left out, none is in doubt
 
@@ -67,7 +67,7 @@ newest-of c x h = sym (newest-bare x) ∙ is-true (newestLast x) (and-r (soundBu
 
 module _ (r : FreshCalls) (z : refusedWith r ≡ 0) where
   settings-pass : T (settingsSound (settings r))
-  settings-pass = (fresh-passes (begun r) (r .lent) (fresh-sound (r .minimum) (r .most) (r .lent) z)) .1
+  settings-pass = (fresh-passes (begun r) (r .lent) (fresh-sound (r .minimum) (r .most) (r .power) (r .ratio) (r .lent) z)) .1
 
   from-machine : T (sound (settings r) ((calls (settings r) (r .bars)) .state)) → question4 (r .stand) (r .stores) ≡ true
   from-machine s = reached-asks r z ∙ ap newestLast (machine r z) ∙ newest-of (settings r) ((calls (settings r) (r .bars)) .state) s

@@ -63,16 +63,18 @@ acceptedOf (call {b = b} {failed = failed} f p) = acceptedIf failed b (acceptedO
 pub record FreshCalls : Type 0 where
   pub minimum : ℕ
   pub most : ℕ
+  pub power : ℕ
+  pub ratio : ℕ
   pub lent : Stores
   pub bars : List Bar
   pub sums : Events
   pub stand : Stand
   pub stores : Stores
-  pub calls : PortCalls ((freshOf minimum most lent) .stand) lent bars sums stand stores
+  pub calls : PortCalls ((freshOf minimum most power ratio lent) .stand) lent bars sums stand stores
 
 -- the number that the fresh analyzer is refused with, or 0, and the stand that it begins with
 abbrev pub refusedWith : FreshCalls → ℕ
-refusedWith r = (freshOf (r .minimum) (r .most) (r .lent)) .refused
+refusedWith r = (freshOf (r .minimum) (r .most) (r .power) (r .ratio) (r .lent)) .refused
 
 abbrev pub begun : FreshCalls → Stand
-begun r = (freshOf (r .minimum) (r .most) (r .lent)) .stand
+begun r = (freshOf (r .minimum) (r .most) (r .power) (r .ratio) (r .lent)) .stand

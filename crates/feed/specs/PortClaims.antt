@@ -83,8 +83,8 @@ pub record FakesTold (r : FreshCalls) (i : ℕ) (c : FakesCall) : Type 0 where
   pub at : nth (keptOf r) i ≡ some stroke
   -- an odd number is answered
   pub odd : c .answer .count % 2 ≡ 1
-  -- they are the fake strokes of that stroke's fractals
-  pub fakes : toldFakes c ≡ createFakeBis (stroke .fractals)
+  -- they are the fake strokes of that stroke's fractals, power to the stand's places
+  pub fakes : toldFakes c ≡ createFakeBis (r .stand .«power_places») (stroke .fractals)
   -- the first begins at the time of the stroke's start and goes the stroke's way, each next one begins at the time at which the one before ends and goes the other
   -- way, and the last ends at the time of the stroke's end
   pub told : FakeChain (timeOf (stroke .start)) (directionOf (stroke .start .mark)) (toldFakes c) (timeOf (stroke .end))
@@ -117,6 +117,8 @@ pub record PortDemand3 : Type 0 where
   pub by-time-reached : ReachedByTime
   -- one that was refused: so is every call
   pub idle : (r : FreshCalls) → (refusedWith r ≡ 0 → ⊥) → (r .stand ≡ begun r) × (r .stores ≡ r .lent) × (r .sums ≡ none-yet)
+  -- the places for power and for ratios that the fresh analyzer was asked for are the stand's: no call changes them
+  pub places : (r : FreshCalls) → refusedWith r ≡ 0 → (r .stand .«power_places» ≡ r .power) × (r .stand .«ratio_places» ≡ r .ratio)
   -- over all answers, strokes made = kept + broken + shed
   pub sums : (r : FreshCalls) → r .sums .made ≡ length (keptOf r) + r .sums .broken + r .sums .shed
   -- a fresh analyzer that was not refused: call by call, the strokes kept before it and those the machine then makes are those it sheds, those kept after it and those it

@@ -35,8 +35,8 @@ use Rattle.from_fresh.proofs.OneMoreCall.{events, port-snoc}
 -- ---- where it begins, and how it goes on
 
 -- what `fresh` hands back where it refuses nothing
-pub from-fresh-begins : (minimum most : ℕ) (m : Stores) → (freshOf minimum most m) .refused ≡ 0 → FromFresh ((freshOf minimum most m) .stand) m
-from-fresh-begins minimum most m z = record { minimum = minimum; most = most; lent = m; bars = []; sums = none-yet; answered = z; calls = none }
+pub from-fresh-begins : (minimum most power ratio : ℕ) (m : Stores) → (freshOf minimum most power ratio m) .refused ≡ 0 → FromFresh ((freshOf minimum most power ratio m) .stand) m
+from-fresh-begins minimum most power ratio m z = record { minimum = minimum; most = most; power = power; ratio = ratio; lent = m; bars = []; sums = none-yet; answered = z; calls = none }
 
 -- one feed more
 pub from-fresh-next : {s s' : Stand} {m m' : Stores} {b : Bar} {failed made broken shed : ℕ} → FromFresh s m → FeedIs s m b failed made broken shed s' m' → FromFresh s' m'
@@ -44,6 +44,8 @@ from-fresh-next {b = b} {made = made} {broken = broken} {shed = shed} x f =
     record {
       minimum = x .minimum;
       most = x .most;
+      power = x .power;
+      ratio = x .ratio;
       lent = x .lent;
       bars = x .bars ++ b ∷ [];
       sums = added (x .sums) (events made broken shed);
@@ -69,8 +71,8 @@ module _ {s : Stand} {m : Stores} (x : FromFresh s m) where
   rooms-pass : T (roomsPass (settingsOf s))
   unfolding storesSound
   rooms-pass =
-      let a = (freshOf (x .minimum) (x .most) (x .lent)) .stand in
-      let h = stores-sound a (x .lent) (fresh-sound (x .minimum) (x .most) (x .lent) (x .answered)) in
+      let a = (freshOf (x .minimum) (x .most) (x .power) (x .ratio) (x .lent)) .stand in
+      let h = stores-sound a (x .lent) (fresh-sound (x .minimum) (x .most) (x .power) (x .ratio) (x .lent) (x .answered)) in
       subst (λ (c : Settings). T (roomsPass c)) (sym (settings-stay (x .calls))) ((clauses (settingsOf a) (stateOf a (x .lent)) (h .state)) .rooms)
 
   pub from-fresh-small : (s .raw ≤ 65536) × (s .unfinished ≤ 65536)

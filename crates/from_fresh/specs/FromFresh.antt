@@ -13,12 +13,14 @@ use Rattle.feed.specs.PortCalls.{PortCalls, FreshCalls}
 pub record FromFresh (s : Stand) (m : Stores) : Type 0 where
   pub minimum : ℕ
   pub most : ℕ
+  pub power : ℕ
+  pub ratio : ℕ
   pub lent : Stores
   pub bars : List Bar
   pub sums : Events
-  pub answered : (freshOf minimum most lent) .refused ≡ 0
-  pub calls : PortCalls ((freshOf minimum most lent) .stand) lent bars sums s m
+  pub answered : (freshOf minimum most power ratio lent) .refused ≡ 0
+  pub calls : PortCalls ((freshOf minimum most power ratio lent) .stand) lent bars sums s m
 
 -- the list of feed calls: the claims of PortClaims are claims on it
 abbrev pub freshCalls : {s : Stand} {m : Stores} → FromFresh s m → FreshCalls
-freshCalls {s = s} {m = m} x = record { minimum = x .minimum; most = x .most; lent = x .lent; bars = x .bars; sums = x .sums; stand = s; stores = m; calls = x .calls }
+freshCalls {s = s} {m = m} x = record { minimum = x .minimum; most = x .most; power = x .power; ratio = x .ratio; lent = x .lent; bars = x .bars; sums = x .sums; stand = s; stores = m; calls = x .calls }

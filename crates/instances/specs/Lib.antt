@@ -1,3 +1,4 @@
 pub mod Marked
 pub mod MovedMarked
 pub mod Runs
+pub mod PlacesMarked

@@ -91,7 +91,7 @@ first = bar 1 12 10 ∷ bar 2 10 8 ∷ bar 3 11 9 ∷ bar 4 13 11 ∷ bar 5 15 1
 
 unfoldable pub fed : ℕ → List Bar → Step
 unfolding calls
-fed minimum bs = calls (record { minimum = minimum; most = 50; rawRoom = 64; unfinishedRoom = 64; strokeRoom = 64 }) bs
+fed minimum bs = calls (record { minimum = minimum; most = 50; rawRoom = 64; unfinishedRoom = 64; strokeRoom = 64; powerPlaces = 2; ratioPlaces = 4 }) bs
 
 -- strokes made, broken, shed
 unfoldable pub events : Step → ℕ × ℕ × ℕ
@@ -108,7 +108,7 @@ unfolding measuresOf
 sizes s =
     map
     (λ b.
-    let m = measuresOf (s .state .raw) b in
+    let m = measuresOf 2 4 (s .state .raw) b in
     (m .length, m .«power_price», m .change, m .«power_volume», m .snr))
     (s .state .strokes)
 
@@ -144,7 +144,7 @@ pub record Marked : Type 0 where
   pub six : roundTo 2 (fin false 1 (negsuc 2)) ≡ ratio 13 100
   pub six-minus : roundTo 2 (fin true 1 (negsuc 2)) ≡ neg (ratio 13 100)
   -- start 131072, end 131071: change is minus zero
-  pub seven : change (between (fractal G 1 131072 131071) (fractal D 2 131072 131071)) ≡ fin true 0 (pos 0)
+  pub seven : change 4 (between (fractal G 1 131072 131071) (fractal D 2 131072 131071)) ≡ fin true 0 (pos 0)
   -- minimum 7: one up stroke, times 2 to 6, length 7, power 9, change 1.125, volume 5, SNR 9/10. Minimum 8: none
   pub eight : events (fed 7 first) ≡ (1, 0, 0)
   pub eight-stroke : ways (fed 7 first) ≡ (Up, pos 2, pos 6) ∷ []
@@ -155,16 +155,16 @@ pub record Marked : Type 0 where
   pub nine-unfinished : length ((fed 7 (first ++ bar 8 18 16 ∷ [])) .state .unfinished) ≡ 8
   pub nine-kept : events (fed 7 (first ++ bar 8 17 16 ∷ [])) ≡ (1, 0, 0)
   -- five alternating fractals: 3 fake strokes; three: 1. The number does not turn on the fractals
-  pub ten : (a b c d e : Fractal) → length (createFakeBis (a ∷ b ∷ c ∷ d ∷ e ∷ [])) ≡ 3
-  pub ten-three : (a b c : Fractal) → length (createFakeBis (a ∷ b ∷ c ∷ [])) ≡ 1
-  pub ten-told : createFakeBis (fractal D 1 10 8 ∷ fractal G 3 15 14 ∷ fractal D 6 13 11 ∷ []) ≡ fake Up 1 3 15 8 7 ∷ []
+  pub ten : (a b c d e : Fractal) → length (createFakeBis 2 (a ∷ b ∷ c ∷ d ∷ e ∷ [])) ≡ 3
+  pub ten-three : (a b c : Fractal) → length (createFakeBis 2 (a ∷ b ∷ c ∷ [])) ≡ 1
+  pub ten-told : createFakeBis 2 (fractal D 1 10 8 ∷ fractal G 3 15 14 ∷ fractal D 6 13 11 ∷ []) ≡ fake Up 1 3 15 8 7 ∷ []
   -- 10 to 15 up, 12 to 15 down, 12 to 18 up: zg 15, zd 12, zz 13.5. Then 16 to 18 down: a second zone
   pub eleven : edges (getZsSeq ranges) ≡ (num 15, num 12, ratio 27 2) ∷ []
   pub eleven-second : edges (getZsSeq (ranges ++ range Down 16 18 ∷ [])) ≡ (num 15, num 12, ratio 27 2) ∷ (num 18, num 16, num 17) ∷ []
   -- gap 10/8, 12/11, then 11/10: up, ratio 0.1, open. Low 9.5 instead: covered
-  pub twelve : gapsOf (map rowOf (bar 1 10 8 ∷ bar 2 12 11 ∷ bar 3 11 10 ∷ [])) ≡ Gaps.Up (num 10) (num 11) (ratio 1 10) false ∷ Gaps.NoGap ∷ []
+  pub twelve : gapsOf 4 (map rowOf (bar 1 10 8 ∷ bar 2 12 11 ∷ bar 3 11 10 ∷ [])) ≡ Gaps.Up (num 10) (num 11) (ratio 1 10) false ∷ Gaps.NoGap ∷ []
   pub twelve-covered :
-      gapsOf (map rowOf (bar 1 10 8 ∷ bar 2 12 11 ∷ candle 3 (num 11) (ratio 19 2) ∷ [])) ≡ Gaps.Up (num 10) (num 11) (ratio 1 10) true ∷ Gaps.NoGap ∷ []
+      gapsOf 4 (map rowOf (bar 1 10 8 ∷ bar 2 12 11 ∷ candle 3 (num 11) (ratio 19 2) ∷ [])) ≡ Gaps.Up (num 10) (num 11) (ratio 1 10) true ∷ Gaps.NoGap ∷ []
 
 pub marked : Marked
 unfolding told is candle bar num ratio marks between fractal fake first fed events ways sizes range ranges edges mergeAll checkFxs checkFx own roundTo neg change createFakeBis getZsSeq gapsOf rowOf

@@ -53,7 +53,7 @@ nineLess k b = fed 7 (map (lowered k) (first ++ b ∷ []))
 -- high and low of each kept stroke
 unfoldable pub reach : Step → List (Float × Float)
 unfolding measuresOf
-reach s = map (λ b. let m = measuresOf (s .state .raw) b in (m .high, m .low)) (s .state .strokes)
+reach s = map (λ b. let m = measuresOf 2 4 (s .state .raw) b in (m .high, m .low)) (s .state .strokes)
 
 -- a fractal of one price
 unfoldable pub fractalAt : Mark → Float → Fractal
@@ -82,8 +82,8 @@ pub record MovedMarked : Type 0 where
   pub across-broken : events (nineLess 12 (bar 8 18 16)) ≡ (1, 1, 0)
   pub across-kept : events (nineLess 12 (bar 8 17 16)) ≡ (1, 0, 0)
   -- up from -10 to -5: -0.5; down from -5 to -10: 1.0
-  pub rise-below : change (between (fractalAt D (neg (num 10))) (fractalAt G (neg (num 5)))) ≡ neg (ratio 1 2)
-  pub fall-below : change (between (fractalAt G (neg (num 5))) (fractalAt D (neg (num 10)))) ≡ num 1
+  pub rise-below : change 4 (between (fractalAt D (neg (num 10))) (fractalAt G (neg (num 5)))) ≡ neg (ratio 1 2)
+  pub fall-below : change 4 (between (fractalAt G (neg (num 5))) (fractalAt D (neg (num 10)))) ≡ num 1
   -- instance 11 with 13 and with 20 taken: zg, zd and zz
   pub zone-across : edges (getZsSeq (map (loweredRange 13) ranges)) ≡ (num 2, neg (num 1), ratio 1 2) ∷ []
   pub zone-below : edges (getZsSeq (map (loweredRange 20) ranges)) ≡ (neg (num 5), neg (num 8), neg (ratio 13 2)) ∷ []

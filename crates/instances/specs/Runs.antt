@@ -50,7 +50,7 @@ dn m k = fin false m (negsuc k)
 
 -- minimum, most strokes, and the room of the stores
 unfoldable settings : ℕ → ℕ → ℕ → ℕ → ℕ → Settings
-settings n m r u s = record { minimum = n; most = m; rawRoom = r; unfinishedRoom = u; strokeRoom = s }
+settings n m r u s = record { minimum = n; most = m; rawRoom = r; unfinishedRoom = u; strokeRoom = s; powerPlaces = 2; ratioPlaces = 4 }
 
 unfoldable bar : ℤ → ℤ → Float → Float → Float → Float → Float → Float → Bar
 bar t i o c h l v a = record { time = t; id = i; «open» = o; close = c; high = h; low = l; vol = v; amount = a }
@@ -166,7 +166,7 @@ strokeTold b =
 
 unfoldable measureTold : List Bar → Stroke → Measured
 unfolding measuresOf getRawBars createFakeBis
-measureTold raw b = record { measures = measuresOf raw b; inner = map (λ r. r .time) (getRawBars raw b); fakes = createFakeBis (b .fractals) }
+measureTold raw b = record { measures = measuresOf 2 4 raw b; inner = map (λ r. r .time) (getRawBars raw b); fakes = createFakeBis 2 (b .fractals) }
 
 -- the runs of n strokes and fewer, shortest first
 unfoldable shorter : ℕ → List Summary → List (Bool × Bool)
@@ -208,7 +208,7 @@ toldOf s =
       answers = map answersOf (join (map (λ b. b .fractals) bs) ++ checkFxs l);
       ubifx = map fxTold (checkFxs l);
       unfinished = ubiTold (getUbi raw l bs);
-      gaps = gapsOf (map rowOf raw);
+      gaps = gapsOf 4 (map rowOf raw);
     }
 
 -- all calls from a fresh analyzer

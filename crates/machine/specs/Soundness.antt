@@ -42,14 +42,17 @@ countsFit c s =
     (leb (length (s .raw)) (c .rawRoom) && leb (length (s .unfinished)) (c .unfinishedRoom))
     && (leb (barsOf (s .strokes)) (c .strokeRoom) && every fewerFractals (s .strokes))
 
--- ---- its minimum length and most strokes are each 1 to 64
+-- ---- its minimum length and most strokes are each 1 to 64, and its places for power and for ratios each 0 to 6 (document 02, request two)
 
 unfoldable pub isSetting : ℕ → Bool
 isSetting n = leb 1 n && leb n 64
 
+unfoldable pub isPlaces : ℕ → Bool
+isPlaces d = leb d 6
+
 unfoldable pub settingsPass : Settings → Bool
-unfolding isSetting
-settingsPass c = isSetting (c .minimum) && isSetting (c .most)
+unfolding isSetting isPlaces
+settingsPass c = (isSetting (c .minimum) && isSetting (c .most)) && (isPlaces (c .powerPlaces) && isPlaces (c .ratioPlaces))
 
 -- ---- it keeps no more strokes than the most
 

@@ -6,13 +6,16 @@ use Rattle.bars.specs.declared.Bar.{Bar}
 use Rattle.bars.specs.Bars.{Merged}
 use Rattle.machine.specs.Strokes.{Stroke}
 
--- the minimum length of a stroke, the most strokes, and the room of the three stores: raw bars, unfinished merged bars, bars of strokes
+-- the minimum length of a stroke, the most strokes, the room of the three stores: raw bars, unfinished merged bars, bars of strokes; and how many decimal
+-- places power and ratios are rounded to. The places are only for the reports: no step looks at them.
 pub record Settings : Type 0 where
   pub minimum : ℕ
   pub most : ℕ
   pub rawRoom : ℕ
   pub unfinishedRoom : ℕ
   pub strokeRoom : ℕ
+  pub powerPlaces : ℕ
+  pub ratioPlaces : ℕ
 
 -- raw bars kept, unfinished merged bars, strokes kept
 pub record State : Type 0 where

@@ -18,7 +18,7 @@ pub record Told : Type 0 where
 unfoldable pub told : ℕ → ℕ → List Bar → Told
 unfolding calls timeOf
 told minimum most bs =
-    let s = calls (record { minimum = minimum; most = most; rawRoom = 64; unfinishedRoom = 64; strokeRoom = 64 }) bs in
+    let s = calls (record { minimum = minimum; most = most; rawRoom = 64; unfinishedRoom = 64; strokeRoom = 64; powerPlaces = 2; ratioPlaces = 4 }) bs in
     record {
       events = (s .events .made, s .events .broken, s .events .shed);
       strokes = map (λ b. (timeOf (b .start), timeOf (b .end))) (s .state .strokes);

@@ -43,7 +43,7 @@ unfolding bar
 tipping = bar 206 18 10
 
 unfoldable pub five : Settings
-five = record { minimum = 5; most = 50; rawRoom = 1024; unfinishedRoom = 1024; strokeRoom = 1024 }
+five = record { minimum = 5; most = 50; rawRoom = 1024; unfinishedRoom = 1024; strokeRoom = 1024; powerPlaces = 2; ratioPlaces = 4 }
 
 unfoldable pub after : Step
 unfolding callsNewest deep tipping five

@@ -8,5 +8,5 @@ use Rattle.sound.specs.declared.fresh_stand.FreshAnswer.{FreshAnswer}
 use Rattle.from_fresh.specs.FromFresh.{FromFresh}
 use Rattle.from_fresh.proofs.FromFreshLaws.{from-fresh-begins}
 
-pub not-refused : (minimum most : ℕ) (m : Stores) (r : FreshAnswer) → r ≡ freshOf minimum most m → r .refused ≤ 0 → FromFresh (r .stand) m
-not-refused minimum most m r e = subst (λ (x : FreshAnswer). x .refused ≤ 0 → FromFresh (x .stand) m) (sym e) (λ h. from-fresh-begins minimum most m (omega arith))
+pub not-refused : (minimum most power ratio : ℕ) (m : Stores) (r : FreshAnswer) → r ≡ freshOf minimum most power ratio m → r .refused ≤ 0 → FromFresh (r .stand) m
+not-refused minimum most power ratio m r e = subst (λ (x : FreshAnswer). x .refused ≤ 0 → FromFresh (x .stand) m) (sym e) (λ h. from-fresh-begins minimum most power ratio m (omega arith))

@@ -93,6 +93,8 @@ fn start(
     let r = sound::fresh(
         call.minimum,
         call.most,
+        call.power,
+        call.ratio,
         rt,
         ri,
         rp,

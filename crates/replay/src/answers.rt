@@ -53,7 +53,7 @@ fn holds(asked: Rooms) -> bool {
     asked.strokes <= 2048
 }
 
-// The answer to `n`, where a fresh analyzer with its settings over the stores in use answered k: questions 1 and 2. Question 3 is of the lengths asked for, which are not lent yet. A refused one, or one
+// The answer to `n`, where a fresh analyzer with its settings over the stores in use answered k: questions 1, 2 and 17. Question 3 is of the lengths asked for, which are not lent yet. A refused one, or one
 // of longer stores than the program's, leaves the analyzer that was there.
 fn started(out: &mut Buffer, p: Player, k: u64) -> Player {
     let call = p.call;
@@ -190,6 +190,8 @@ fn answer(
         let r = sound::fresh(
             call.minimum,
             call.most,
+            call.power,
+            call.ratio,
             rt,
             ri,
             rp,

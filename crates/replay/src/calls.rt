@@ -53,6 +53,8 @@ pub struct Call {
     pub minimum: usize,
     pub most: usize,
     pub rooms: Rooms,
+    pub power: usize,
+    pub ratio: usize,
 }
 
 fn bar_call(kind: u8, bar: Bar) -> Call {
@@ -67,6 +69,8 @@ fn bar_call(kind: u8, bar: Bar) -> Call {
         minimum: 0,
         most: 0,
         rooms,
+        power: 0,
+        ratio: 0,
     }
 }
 
@@ -94,14 +98,16 @@ fn feed_call(line: &[u8], at: usize) -> Call {
     bar_call(2, bar)
 }
 
-fn start_call(line: &[u8], at: usize) -> Call {
-    let Count::At(minimum, a) = count_at(line, at) else {
-        return plain_call(0);
-    };
-    let Count::At(most, b) = count_at(line, a) else {
-        return plain_call(0);
-    };
-    let Count::At(raw, c) = count_at(line, b) else {
+// A fresh analyzer with these settings. The rooms are the last three numbers of the line, from `at` on.
+fn rooms_call(
+    line: &[u8],
+    at: usize,
+    minimum: usize,
+    most: usize,
+    power: usize,
+    ratio: usize,
+) -> Call {
+    let Count::At(raw, c) = count_at(line, at) else {
         return plain_call(0);
     };
     let Count::At(unfinished, d) = count_at(line, c) else {
@@ -125,7 +131,37 @@ fn start_call(line: &[u8], at: usize) -> Call {
         minimum,
         most,
         rooms,
+        power,
+        ratio,
     }
+}
+
+// `n` has 2 places for power and 4 for ratios.
+fn start_call(line: &[u8], at: usize) -> Call {
+    let Count::At(minimum, a) = count_at(line, at) else {
+        return plain_call(0);
+    };
+    let Count::At(most, b) = count_at(line, a) else {
+        return plain_call(0);
+    };
+    rooms_call(line, b, minimum, most, 2, 4)
+}
+
+// `N` gives its places.
+fn places_call(line: &[u8], at: usize) -> Call {
+    let Count::At(minimum, a) = count_at(line, at) else {
+        return plain_call(0);
+    };
+    let Count::At(most, b) = count_at(line, a) else {
+        return plain_call(0);
+    };
+    let Count::At(power, c) = count_at(line, b) else {
+        return plain_call(0);
+    };
+    let Count::At(ratio, d) = count_at(line, c) else {
+        return plain_call(0);
+    };
+    rooms_call(line, d, minimum, most, power, ratio)
 }
 
 // A space with no field behind it.
@@ -154,6 +190,9 @@ fn call_in(line: &[u8], long: bool) -> Call {
     let word = &line[..end];
     if lines::is_word(word, b"n") {
         return start_call(line, end + 1);
+    }
+    if lines::is_word(word, b"N") {
+        return places_call(line, end + 1);
     }
     if lines::is_word(word, b"b") {
         return feed_call(line, end + 1);

@@ -36,18 +36,18 @@ rows-there s m e =
 
 pub pair-no : (s : Stand) (m : Stores) (i : ℕ) (r : GapInfo) → question4 s m ≡ false → r ≡ noGap 4 → r ≡ gapReport s m i
 unfolding gapReport pairBy
-pair-no s m i r e q = q ∙ ap (λ (t : Bool). pairBy t (gapAt (keptPrices s m) i)) (sym e)
+pair-no s m i r e q = q ∙ ap (λ (t : Bool). pairBy t (gapAt (s .«ratio_places») (keptPrices s m) i)) (sym e)
 
-among-all : (ps : List (List Float)) (n i : ℕ) → n ≤ length ps → gapAmong ps n i ≡ gapAt (take n ps) i
+among-all : (d : ℕ) (ps : List (List Float)) (n i : ℕ) → n ≤ length ps → gapAmong d ps n i ≡ gapAt d (take n ps) i
 unfolding gapAmong unlessShort
-among-all ps n i h = ap (λ (t : Bool). unlessShort t (gapAt (take n ps) i)) (le-leb n (length ps) h)
+among-all d ps n i h = ap (λ (t : Bool). unlessShort t (gapAt d (take n ps) i)) (le-leb n (length ps) h)
 
-pub pair-yes : (s : Stand) (m : Stores) (i : ℕ) (a : GapAnswer) (r : GapInfo) → question4 s m ≡ true → a ≡ gapAmong (m .raw .prices) (s .raw) i → r ≡ pairGiven a → r ≡ gapReport s m i
+pub pair-yes : (s : Stand) (m : Stores) (i : ℕ) (a : GapAnswer) (r : GapInfo) → question4 s m ≡ true → a ≡ gapAmong (s .«ratio_places») (m .raw .prices) (s .raw) i → r ≡ pairGiven a → r ≡ gapReport s m i
 unfolding gapReport pairBy keptPrices
 pair-yes s m i a r e w q =
     q
-    ∙ ap pairGiven (w ∙ among-all (m .raw .prices) (s .raw) i (rows-there s m e))
-    ∙ ap (λ (t : Bool). pairBy t (gapAt (keptPrices s m) i)) (sym e)
+    ∙ ap pairGiven (w ∙ among-all (s .«ratio_places») (m .raw .prices) (s .raw) i (rows-there s m e))
+    ∙ ap (λ (t : Bool). pairBy t (gapAt (s .«ratio_places») (keptPrices s m) i)) (sym e)
 
 -- what is read within a column, whatever stands for a place outside it
 column-at : {B : Type 0} (f : Gap → B) (gs : List Gap) (i : ℕ) (z : B) → i < length gs → f (getD gs i NoGap) ≡ getD (map f gs) i z
@@ -56,14 +56,14 @@ column-at f gs i z h =
     sym (List·getD-map f gs i NoGap) ∙ Option·some-injective _ _ (sym (nth-at (map f gs) i (f NoGap) w) ∙ nth-at (map f gs) i z w)
 
 -- by question 4, and by whether there is such a pair
-listed-if : (q t : Bool) (ps : List (List Float)) (i : ℕ) → ltb (i + 1) (length ps) ≡ t → pairBy q (pairIf t (getD (gapsOf ps) i NoGap)) .failed ≡ 0
-    → ListedAt ps i (pairBy q (pairIf t (getD (gapsOf ps) i NoGap)) .gap)
+listed-if : (q t : Bool) (d : ℕ) (ps : List (List Float)) (i : ℕ) → ltb (i + 1) (length ps) ≡ t → pairBy q (pairIf t (getD (gapsOf d ps) i NoGap)) .failed ≡ 0
+    → ListedAt d ps i (pairBy q (pairIf t (getD (gapsOf d ps) i NoGap)) .gap)
 unfolding pairBy pairIf pairGiven noGap answerNumber
-listed-if false t ps i e f = absurd (omega arith)
-listed-if true false ps i e f = absurd (omega arith)
-listed-if true true ps i e f =
-    let gs = gapsOf ps in
-    let w : i < length gs = omega (arith, ltb-true (i + 1) (length ps) e, gaps-length ps) in
+listed-if false t d ps i e f = absurd (omega arith)
+listed-if true false d ps i e f = absurd (omega arith)
+listed-if true true d ps i e f =
+    let gs = gapsOf d ps in
+    let w : i < length gs = omega (arith, ltb-true (i + 1) (length ps) e, gaps-length d ps) in
     record {
       within = w;
       number = column-at gapNumber gs i 0 w;
@@ -71,17 +71,17 @@ listed-if true true ps i e f =
       covered = column-at gapCovered gs i false w;
     }
 
-pub pair-listed : (s : Stand) (m : Stores) (i : ℕ) (r : GapInfo) → r ≡ gapReport s m i → r .failed ≡ 0 → ListedAt (keptPrices s m) i (r .gap)
+pub pair-listed : (s : Stand) (m : Stores) (i : ℕ) (r : GapInfo) → r ≡ gapReport s m i → r .failed ≡ 0 → ListedAt (s .«ratio_places») (keptPrices s m) i (r .gap)
 unfolding gapReport gapAt
 pair-listed s m i r e f =
     let ps = keptPrices s m in
-    subst (λ (x : GapInfo). ListedAt ps i (x .gap)) (sym e) (listed-if (question4 s m) (ltb (i + 1) (length ps)) ps i refl (sym (ap (λ (x : GapInfo). x .failed) e) ∙ f))
+    subst (λ (x : GapInfo). ListedAt (s .«ratio_places») ps i (x .gap)) (sym e) (listed-if (question4 s m) (ltb (i + 1) (length ps)) (s .«ratio_places») ps i refl (sym (ap (λ (x : GapInfo). x .failed) e) ∙ f))
 
 -- ---- all pairs
 
 pub gaps-no : (s : Stand) (m : Stores) (d : GapColumns) → question4 s m ≡ false → gapsAnswered (record { failed = 4; count = 0 }) d ≡ gapsReport s m d
 unfolding gapsReport gapsBy
-gaps-no s m d e = ap (λ (t : Bool). gapsBy t (gapsFit d (gapsOf (keptPrices s m))) (gapsOf (keptPrices s m)) d) (sym e)
+gaps-no s m d e = ap (λ (t : Bool). gapsBy t (gapsFit d (gapsOf (s .«ratio_places») (keptPrices s m))) (gapsOf (s .«ratio_places») (keptPrices s m)) d) (sym e)
 
 -- how many pairs of n bars are listed, by the listing's number
 countIf : ℕ → ℕ → ℕ
@@ -93,41 +93,41 @@ told : ℕ → GapsListed → GapsAnswered
 told n l = gapsAnswered (record { failed = l .number; count = countIf (l .number) n }) (l .columns)
 
 -- a listing where all bars are there, by whether each column has a place for each pair
-told-if : (k v c : Bool) (ps : List (List Float)) (n : ℕ) (d : GapColumns) → length (gapsOf (take n ps)) ≡ n - 1
-    → told n (listIf true k v c ps n d) ≡ gapsBy true (k && (v && c)) (gapsOf (take n ps)) d
+told-if : (k v c : Bool) (p : ℕ) (ps : List (List Float)) (n : ℕ) (d : GapColumns) → length (gapsOf p (take n ps)) ≡ n - 1
+    → told n (listIf true k v c p ps n d) ≡ gapsBy true (k && (v && c)) (gapsOf p (take n ps)) d
 unfolding told listIf gapsBy countIf
-told-if false v c ps n d h = refl
-told-if true false c ps n d h = refl
-told-if true true false ps n d h = refl
-told-if true true true ps n d h = λ i. gapsAnswered (record { failed = 0; count = sym h i }) (written (gapsOf (take n ps)) (sym h i) d)
+told-if false v c p ps n d h = refl
+told-if true false c p ps n d h = refl
+told-if true true false p ps n d h = refl
+told-if true true true p ps n d h = λ i. gapsAnswered (record { failed = 0; count = sym h i }) (written (gapsOf p (take n ps)) (sym h i) d)
 
-told-all : (ps : List (List Float)) (n : ℕ) (d : GapColumns) → n ≤ length ps
-    → told n (listGaps ps n d) ≡ gapsBy true (gapsFit d (gapsOf (take n ps))) (gapsOf (take n ps)) d
+told-all : (p : ℕ) (ps : List (List Float)) (n : ℕ) (d : GapColumns) → n ≤ length ps
+    → told n (listGaps p ps n d) ≡ gapsBy true (gapsFit d (gapsOf p (take n ps))) (gapsOf p (take n ps)) d
 unfolding listGaps gapsFit question14
-told-all ps n d h =
-    let gs = gapsOf (take n ps) in
-    let e : length gs ≡ n - 1 = gaps-length (take n ps) ∙ ap (λ (k : ℕ). k - 1) (length-take-le n ps h) in
+told-all p ps n d h =
+    let gs = gapsOf p (take n ps) in
+    let e : length gs ≡ n - 1 = gaps-length p (take n ps) ∙ ap (λ (k : ℕ). k - 1) (length-take-le n ps h) in
     let fit : ℕ → Bool = λ j. (leb j (length (d .kinds)) && (leb j (length (d .values)) && leb j (length (d .covered)))) in
-    ap (λ (t : Bool). told n (listIf t (leb (n - 1) (length (d .kinds))) (leb (n - 1) (length (d .values))) (leb (n - 1) (length (d .covered))) ps n d)) (le-leb n (length ps) h)
-    ∙ told-if (leb (n - 1) (length (d .kinds))) (leb (n - 1) (length (d .values))) (leb (n - 1) (length (d .covered))) ps n d e
+    ap (λ (t : Bool). told n (listIf t (leb (n - 1) (length (d .kinds))) (leb (n - 1) (length (d .values))) (leb (n - 1) (length (d .covered))) p ps n d)) (le-leb n (length ps) h)
+    ∙ told-if (leb (n - 1) (length (d .kinds))) (leb (n - 1) (length (d .values))) (leb (n - 1) (length (d .covered))) p ps n d e
     ∙ ap (λ (j : ℕ). gapsBy true (fit j) gs d) (sym e)
 
 module _ (s : Stand) (m : Stores) (d d' : GapColumns) where
-  told-is : (q : ℕ) → question4 s m ≡ true → gapsListed q d' ≡ listGaps (m .raw .prices) (s .raw) d → told (s .raw) (gapsListed q d') ≡ gapsReport s m d
+  told-is : (q : ℕ) → question4 s m ≡ true → gapsListed q d' ≡ listGaps (s .«ratio_places») (m .raw .prices) (s .raw) d → told (s .raw) (gapsListed q d') ≡ gapsReport s m d
   unfolding gapsReport keptPrices
   told-is q e w =
       ap (told (s .raw)) w
-      ∙ told-all (m .raw .prices) (s .raw) d (rows-there s m e)
-      ∙ ap (λ (t : Bool). gapsBy t (gapsFit d (gapsOf (keptPrices s m))) (gapsOf (keptPrices s m)) d) (sym e)
+      ∙ told-all (s .«ratio_places») (m .raw .prices) (s .raw) d (rows-there s m e)
+      ∙ ap (λ (t : Bool). gapsBy t (gapsFit d (gapsOf (s .«ratio_places») (keptPrices s m))) (gapsOf (s .«ratio_places») (keptPrices s m)) d) (sym e)
 
   -- refused, and listed
-  pub gaps-refused : (q : ℕ) → 0 < q → question4 s m ≡ true → gapsListed q d' ≡ listGaps (m .raw .prices) (s .raw) d
+  pub gaps-refused : (q : ℕ) → 0 < q → question4 s m ≡ true → gapsListed q d' ≡ listGaps (s .«ratio_places») (m .raw .prices) (s .raw) d
       → gapsAnswered (record { failed = q; count = 0 }) d' ≡ gapsReport s m d
   unfolding told countIf
   gaps-refused zero h e w = absurd (omega arith)
   gaps-refused (suc q) h e w = told-is (suc q) e w
 
-  pub gaps-yes : (q n : ℕ) → q ≤ 0 → question4 s m ≡ true → gapsListed q d' ≡ listGaps (m .raw .prices) (s .raw) d → n ≡ s .raw - 1
+  pub gaps-yes : (q n : ℕ) → q ≤ 0 → question4 s m ≡ true → gapsListed q d' ≡ listGaps (s .«ratio_places») (m .raw .prices) (s .raw) d → n ≡ s .raw - 1
       → gapsAnswered (record { failed = 0; count = n }) d' ≡ gapsReport s m d
   unfolding told countIf
   gaps-yes zero n h e w k = (λ i. gapsAnswered (record { failed = 0; count = k i }) d') ∙ told-is 0 e w

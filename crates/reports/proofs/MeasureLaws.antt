@@ -63,16 +63,16 @@ low-is b s e r h p q = h ∙ (λ i. minOf (sym p i .low) (sym q i .low))
 
 -- ---- change
 
-pub change-zero : (b : Stroke) (s : Float) → s ≡ fxOf (b .start) → eq s zeroF ≡ true → zeroF ≡ change b
+pub change-zero : (d : ℕ) (b : Stroke) (s : Float) → s ≡ fxOf (b .start) → eq s zeroF ≡ true → zeroF ≡ change d b
 unfolding change changeIf
-change-zero b s p k = sym (ap (λ (x : Bool). changeIf x (fxOf (b .start)) (fxOf (b .end))) (ap (λ (y : Float). eq y zeroF) (sym p) ∙ k))
+change-zero d b s p k = sym (ap (λ (x : Bool). changeIf x d (fxOf (b .start)) (fxOf (b .end))) (ap (λ (y : Float). eq y zeroF) (sym p) ∙ k))
 
-pub change-else : (b : Stroke) (s e r : Float) → s ≡ fxOf (b .start) → e ≡ fxOf (b .end) → eq s zeroF ≡ false → r ≡ roundTo 4 (div binary64 (sub binary64 e s) s) → r ≡ change b
+pub change-else : (d : ℕ) (b : Stroke) (s e r : Float) → s ≡ fxOf (b .start) → e ≡ fxOf (b .end) → eq s zeroF ≡ false → r ≡ roundTo d (div binary64 (sub binary64 e s) s) → r ≡ change d b
 unfolding change changeIf
-change-else b s e r p q k h =
-    h ∙ ap (λ (x : Bool). changeIf x s e) (sym k)
-    ∙ ap (λ (x : Float). changeIf (eq x zeroF) x e) p
-    ∙ ap (λ (y : Float). changeIf (eq (fxOf (b .start)) zeroF) (fxOf (b .start)) y) q
+change-else d b s e r p q k h =
+    h ∙ ap (λ (x : Bool). changeIf x d s e) (sym k)
+    ∙ ap (λ (x : Float). changeIf (eq x zeroF) d x e) p
+    ∙ ap (λ (y : Float). changeIf (eq (fxOf (b .start)) zeroF) d (fxOf (b .start)) y) q
 
 -- ---- volumes
 
@@ -250,11 +250,11 @@ module _ (rt : List ℤ) (rp : List (List Float)) (l : List ℤ) (rs : List Bar)
 
 -- ---- all measures put together
 
-pub put-together : (rs : List Bar) (b : Stroke) {h w p v s q c a g : Float} {n : ℕ} → h ≡ highOf b → w ≡ lowOf b → p ≡ powerPrice b → v ≡ powerVolume b → s ≡ snr rs → q ≡ powerSnr rs
-    → c ≡ change b → a ≡ slope rs → g ≡ acceleration rs → n ≡ length (b .bars)
-    → record { high = h; low = w; «power_price» = p; «power_volume» = v; snr = s; «power_snr» = q; change = c; slope = a; acceleration = g; length = n } ≡ measuresWith rs b
+pub put-together : (power ratio : ℕ) (rs : List Bar) (b : Stroke) {h w p v s q c a g : Float} {n : ℕ} → h ≡ highOf b → w ≡ lowOf b → p ≡ powerPrice power b → v ≡ powerVolume b → s ≡ snr rs → q ≡ powerSnr ratio rs
+    → c ≡ change ratio b → a ≡ slope rs → g ≡ acceleration rs → n ≡ length (b .bars)
+    → record { high = h; low = w; «power_price» = p; «power_volume» = v; snr = s; «power_snr» = q; change = c; slope = a; acceleration = g; length = n } ≡ measuresWith power ratio rs b
 unfolding measuresWith
-put-together rs b e1 e2 e3 e4 e5 e6 e7 e8 e9 e10 = λ i. record { high = e1 i; low = e2 i; «power_price» = e3 i; «power_volume» = e4 i; snr = e5 i; «power_snr» = e6 i; change = e7 i; slope = e8 i; acceleration = e9 i; length = e10 i }
+put-together power ratio rs b e1 e2 e3 e4 e5 e6 e7 e8 e9 e10 = λ i. record { high = e1 i; low = e2 i; «power_price» = e3 i; «power_volume» = e4 i; snr = e5 i; «power_snr» = e6 i; change = e7 i; slope = e8 i; acceleration = e9 i; length = e10 i }
 
 -- ---- a stroke's inner merged bars in the stroke store
 

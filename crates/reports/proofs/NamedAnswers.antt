@@ -48,15 +48,15 @@ stroke-after k n i e h = omega arith
 module _ (s : Stand) (m : Stores) (i : ℕ) where
   pub measures-unsound : (r : MeasuresAnswer) → r ≡ record { failed = 4; measures = noMeasures } → question4 s m ≡ false → r ≡ measuresAt s m i
   unfolding measuresAt measuresIf
-  measures-unsound r e q = e ∙ ap (λ (t : Bool). measuresIf t ((stateOf s m) .raw) (nth ((stateOf s m) .strokes) i)) (sym q)
+  measures-unsound r e q = e ∙ ap (λ (t : Bool). measuresIf t (s .«power_places») (s .«ratio_places») ((stateOf s m) .raw) (nth ((stateOf s m) .strokes) i)) (sym q)
 
   pub measures-missing : (r : MeasuresAnswer) → r ≡ record { failed = 13; measures = noMeasures } → question4 s m ≡ true → nth ((stateOf s m) .strokes) i ≡ none → r ≡ measuresAt s m i
   unfolding measuresAt measuresIf
-  measures-missing r e q n = e ∙ (λ j. measuresIf (sym q j) ((stateOf s m) .raw) (sym n j))
+  measures-missing r e q n = e ∙ (λ j. measuresIf (sym q j) (s .«power_places») (s .«ratio_places») ((stateOf s m) .raw) (sym n j))
 
-  pub measures-given : (r : MeasuresAnswer) (b : Stroke) → r .failed ≡ 0 → r .measures ≡ measuresOf ((stateOf s m) .raw) b → question4 s m ≡ true → nth ((stateOf s m) .strokes) i ≡ some b → r ≡ measuresAt s m i
+  pub measures-given : (r : MeasuresAnswer) (b : Stroke) → r .failed ≡ 0 → r .measures ≡ measuresOf (s .«power_places») (s .«ratio_places») ((stateOf s m) .raw) b → question4 s m ≡ true → nth ((stateOf s m) .strokes) i ≡ some b → r ≡ measuresAt s m i
   unfolding measuresAt measuresIf
-  measures-given r b f e q n = (λ j. record { failed = f j; measures = e j }) ∙ (λ j. measuresIf (sym q j) ((stateOf s m) .raw) (sym n j))
+  measures-given r b f e q n = (λ j. record { failed = f j; measures = e j }) ∙ (λ j. measuresIf (sym q j) (s .«power_places») (s .«ratio_places») ((stateOf s m) .raw) (sym n j))
 
 -- ---- a stroke's fractals
 

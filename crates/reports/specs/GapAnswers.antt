@@ -38,17 +38,17 @@ unfolding pairGiven noGap
 pairBy true a = pairGiven a
 pairBy false a = noGap 4
 
--- of the kept raw bars at places i and i + 1
+-- of the kept raw bars at places i and i + 1, the ratio to the stand's places
 unfoldable pub gapReport : Stand → Stores → ℕ → GapInfo
 unfolding pairBy question4 gapAt keptPrices
-gapReport s m i = pairBy (question4 s m) (gapAt (keptPrices s m) i)
+gapReport s m i = pairBy (question4 s m) (gapAt (s .«ratio_places») (keptPrices s m) i)
 
--- g is the gap that the listing of all pairs of these rows has at place i: its number, its values and whether it was covered
-pub record ListedAt (ps : List (List Float)) (i : ℕ) (g : Gap) : Type 0 where
-  pub within : i < length (gapsOf ps)
-  pub number : gapNumber g ≡ getD (map gapNumber (gapsOf ps)) i 0
-  pub values : gapValues g ≡ getD (map gapValues (gapsOf ps)) i []
-  pub covered : gapCovered g ≡ getD (map gapCovered (gapsOf ps)) i false
+-- g is the gap that the listing of all pairs of these rows, ratios to d places, has at place i: its number, its values and whether it was covered
+pub record ListedAt (d : ℕ) (ps : List (List Float)) (i : ℕ) (g : Gap) : Type 0 where
+  pub within : i < length (gapsOf d ps)
+  pub number : gapNumber g ≡ getD (map gapNumber (gapsOf d ps)) i 0
+  pub values : gapValues g ≡ getD (map gapValues (gapsOf d ps)) i []
+  pub covered : gapCovered g ≡ getD (map gapCovered (gapsOf d ps)) i false
 
 -- ---- all pairs
 
@@ -76,5 +76,5 @@ gapsBy true true gs d = gapsAnswered (record { failed = 0; count = length gs }) 
 unfoldable pub gapsReport : Stand → Stores → GapColumns → GapsAnswered
 unfolding gapsBy gapsFit question4 gapsOf keptPrices
 gapsReport s m d =
-    let gs = gapsOf (keptPrices s m) in
+    let gs = gapsOf (s .«ratio_places») (keptPrices s m) in
     gapsBy (question4 s m) (gapsFit d gs) gs d

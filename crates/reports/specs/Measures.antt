@@ -1,4 +1,5 @@
--- Document 01's measures of a stroke: what bi.rs answers. `raw` is the list of kept raw bars, in which elements are looked up. Definitions only.
+-- Document 01's measures of a stroke: what bi.rs answers. `raw` is the list of kept raw bars, in which elements are looked up. Power price is rounded to the
+-- places for power, change and power SNR to those for ratios, and nothing else is rounded (document 02, request two). Definitions only.
 use Prim.Native.Nat.{ℕ}
 use mathlib.Core.Bool.{Bool, true, false}
 use mathlib.Core.List.{List, [], _∷_, map}
@@ -22,21 +23,21 @@ use Rattle.machine.specs.Soundness.{inner}
 
 -- high and low (get_high, get_low) are highOf and lowOf of Break
 
--- power price: how far the end's fx lies from the start's, to 2 places (get_power_price)
-unfoldable pub powerPrice : Stroke → Float
+-- power price: how far the end's fx lies from the start's, to d places (get_power_price)
+unfoldable pub powerPrice : ℕ → Stroke → Float
 unfolding roundTo absOf sub fxOf
-powerPrice b = roundTo 2 (absOf (sub binary64 (fxOf (b .end)) (fxOf (b .start))))
+powerPrice d b = roundTo d (absOf (sub binary64 (fxOf (b .end)) (fxOf (b .start))))
 
--- change from s to e relative to s, to 4 places; 0.0 where s is 0.0
-unfoldable pub changeIf : Bool → Float → Float → Float
+-- change from s to e relative to s, to d places; 0.0 where s is 0.0
+unfoldable pub changeIf : Bool → ℕ → Float → Float → Float
 unfolding roundTo div sub
-changeIf true s e = fin false 0 (pos 0)
-changeIf false s e = roundTo 4 (div binary64 (sub binary64 e s) s)
+changeIf true d s e = fin false 0 (pos 0)
+changeIf false d s e = roundTo d (div binary64 (sub binary64 e s) s)
 
 -- change (get_change)
-unfoldable pub change : Stroke → Float
+unfoldable pub change : ℕ → Stroke → Float
 unfolding changeIf eq fxOf
-change b = changeIf (eq (fxOf (b .start)) (fin false 0 (pos 0))) (fxOf (b .start)) (fxOf (b .end))
+change d b = changeIf (eq (fxOf (b .start)) (fin false 0 (pos 0))) d (fxOf (b .start)) (fxOf (b .end))
 
 -- ---- of the merged bars
 
@@ -76,10 +77,10 @@ unfoldable pub snr : List Bar → Float
 unfolding snrOf opensAndCloses
 snr rs = snrOf (opensAndCloses rs)
 
--- power SNR: SNR to 4 places (get_power_snr)
-unfoldable pub powerSnr : List Bar → Float
+-- power SNR: SNR to d places (get_power_snr)
+unfoldable pub powerSnr : ℕ → List Bar → Float
 unfolding roundTo snr
-powerSnr rs = roundTo 4 (snr rs)
+powerSnr d rs = roundTo d (snr rs)
 
 -- slope (get_slope)
 unfoldable pub slope : List Bar → Float
@@ -93,23 +94,23 @@ acceleration rs = accelerationOf (closesOf rs)
 
 -- ---- all of them
 
--- of the stroke b with the inner raw bars rs; `length` is the number of merged bars (get_length)
-unfoldable pub measuresWith : List Bar → Stroke → Measures
+-- of the stroke b with the inner raw bars rs; `length` is the number of merged bars (get_length). `power` and `ratio` are the places for power and for ratios.
+unfoldable pub measuresWith : ℕ → ℕ → List Bar → Stroke → Measures
 unfolding highOf lowOf powerPrice powerVolume snr powerSnr change slope acceleration
-measuresWith rs b =
+measuresWith power ratio rs b =
     record {
       high = highOf b;
       low = lowOf b;
-      «power_price» = powerPrice b;
+      «power_price» = powerPrice power b;
       «power_volume» = powerVolume b;
       snr = snr rs;
-      «power_snr» = powerSnr rs;
-      change = change b;
+      «power_snr» = powerSnr ratio rs;
+      change = change ratio b;
       slope = slope rs;
       acceleration = acceleration rs;
       length = length (b .bars);
     }
 
-unfoldable pub measuresOf : List Bar → Stroke → Measures
+unfoldable pub measuresOf : ℕ → ℕ → List Bar → Stroke → Measures
 unfolding measuresWith getRawBars
-measuresOf raw b = measuresWith (getRawBars raw b) b
+measuresOf power ratio raw b = measuresWith power ratio (getRawBars raw b) b

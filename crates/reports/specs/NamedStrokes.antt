@@ -36,13 +36,13 @@ noMeasures =
       length = 0;
     }
 
--- question 4, then question 13, whether there is such a stroke
-unfoldable pub measuresIf : Bool → List Bar → Option Stroke → MeasuresAnswer
+-- question 4, then question 13, whether there is such a stroke; the places are the stand's
+unfoldable pub measuresIf : Bool → ℕ → ℕ → List Bar → Option Stroke → MeasuresAnswer
 unfolding noMeasures measuresOf
-measuresIf false raw o = record { failed = 4; measures = noMeasures }
-measuresIf true raw none = record { failed = 13; measures = noMeasures }
-measuresIf true raw (some b) = record { failed = 0; measures = measuresOf raw b }
+measuresIf false power ratio raw o = record { failed = 4; measures = noMeasures }
+measuresIf true power ratio raw none = record { failed = 13; measures = noMeasures }
+measuresIf true power ratio raw (some b) = record { failed = 0; measures = measuresOf power ratio raw b }
 
 unfoldable pub measuresAt : Stand → Stores → ℕ → MeasuresAnswer
 unfolding measuresIf question4 stateOf nth
-measuresAt s m i = measuresIf (question4 s m) ((stateOf s m) .raw) (nth ((stateOf s m) .strokes) i)
+measuresAt s m i = measuresIf (question4 s m) (s .«power_places») (s .«ratio_places») ((stateOf s m) .raw) (nth ((stateOf s m) .strokes) i)

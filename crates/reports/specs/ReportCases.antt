@@ -101,7 +101,7 @@ low-tied = refl
 unfoldable stayed : State
 unfolding calls bar
 stayed =
-    (calls (record { minimum = 1; most = 50; rawRoom = 64; unfinishedRoom = 64; strokeRoom = 64 })
+    (calls (record { minimum = 1; most = 50; rawRoom = 64; unfinishedRoom = 64; strokeRoom = 64; powerPlaces = 2; ratioPlaces = 4 })
     (bar 1 8 7 8 ∷ bar 2 10 9 10 ∷ bar 3 3 2 3 ∷ bar 4 6 4 6 ∷ bar 4 5 1 5 ∷ [])) .state
 
 extending : lastBiExtend (stayed .strokes) (stayed .unfinished) ≡ true

@@ -48,6 +48,8 @@ fn refused(failed: u64) -> MeasuresAnswer
 
 // Of the merged bars from place a on and before place z, and of the first n raw bars.
 fn part_measures(
+    power: usize,
+    ratio: usize,
     rt: &[i64],
     rp: &[[f64; 6]],
     n: usize,
@@ -61,9 +63,11 @@ fn part_measures(
     end: StrokeEnd,
 ) -> Measures
     requires { ⌜ (n ≤ length (now rt)) × (length (now rp) ≡ length (now rt)) × (a ≤ z) × (z ≤ length (now sp)) × (length (now sp) ≤ 65536) × (length (now sc) ≡ length (now sp)) × (length (now se) ≡ length (now sp)) ⌝ ∗ ⌜ T (rising (take n (now rt))) ⌝ ∗ ⌜ T (namedRows (take n (now rt)) (cut a z (now sc)) (cut a z (now se))) ⌝ }
-    ensures { λ r. ⌜ ((raw : List BarOf) (b : Stroke) → endOf (b .start) ≡ start → endOf (b .end) ≡ end → bars ≡ length (b .bars) → InColumns raw b (take n (now (rt .entry))) (take n (now (rp .entry))) (cut a z (now (sp .entry))) (cut a z (now (sc .entry))) (cut a z (now (se .entry))) → r ≡ measuresOf raw b) ⌝ }
+    ensures { λ r. ⌜ ((raw : List BarOf) (b : Stroke) → endOf (b .start) ≡ start → endOf (b .end) ≡ end → bars ≡ length (b .bars) → InColumns raw b (take n (now (rt .entry))) (take n (now (rp .entry))) (cut a z (now (sp .entry))) (cut a z (now (sc .entry))) (cut a z (now (se .entry))) → r ≡ measuresOf power ratio raw b) ⌝ }
 {
     measures::measures_of(
+        power,
+        ratio,
         &rt[..n],
         &rp[..n],
         &sp[a..z],
@@ -77,6 +81,8 @@ fn part_measures(
 
 // Of a stroke in these rows. Its merged bars but the first and the last are lent where they stand.
 fn measures_in(
+    power: usize,
+    ratio: usize,
     rows: StrokeRows,
     rt: &[i64],
     rp: &[[f64; 6]],
@@ -87,7 +93,7 @@ fn measures_in(
     fp: &[[f64; 18]],
 ) -> Measures
     requires { ⌜ CanMeasure rows n (now rt) (now rp) (now sp) (now sc) (now se) (now fp) ⌝ }
-    ensures { λ r. ⌜ ((raw : List BarOf) (b : Stroke) → ShownBy raw b rows n (now (rt .entry)) (now (rp .entry)) (now (sp .entry)) (now (sc .entry)) (now (se .entry)) (now (fp .entry)) → r ≡ measuresOf raw b) ⌝ }
+    ensures { λ r. ⌜ ((raw : List BarOf) (b : Stroke) → ShownBy raw b rows n (now (rt .entry)) (now (rp .entry)) (now (sp .entry)) (now (sc .entry)) (now (se .entry)) (now (fp .entry)) → r ≡ measuresOf power ratio raw b) ⌝ }
 {
     let first = rows.first;
     let bars = rows.bars;
@@ -96,7 +102,7 @@ fn measures_in(
     let end = rows_shown::end_at(fp, e);
     let a = first + 1;
     let z = first + bars - 1;
-    part_measures(rt, rp, n, sp, sc, se, a, z, bars, start, end)
+    part_measures(power, ratio, rt, rp, n, sp, sc, se, a, z, bars, start, end)
 }
 
 // The measures of the stroke at a place, the oldest at 0. Questions 4 and 13. The slope's divisor has no
@@ -148,7 +154,9 @@ pub fn measures_at(
     }
     let n = stand.raw;
     let rows = named::rows_of(stand, place);
-    let measures = measures_in(rows, rt, rp, n, sp, sc, se, fp);
+    let power = stand.power_places;
+    let ratio = stand.ratio_places;
+    let measures = measures_in(power, ratio, rows, rt, rp, n, sp, sc, se, fp);
     MeasuresAnswer {
         failed: 0,
         measures,

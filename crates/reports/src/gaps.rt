@@ -59,9 +59,10 @@ pub fn check_gap_info(
     fp: &[[f64; 18]],
     place: usize,
 ) -> GapInfo
-    ensures { λ r. ⌜ (r ≡ gapReport stand (before rt ri rp ut ui up uc ue st si sp sc se fs fp) place) × (r .failed ≡ 0 → ListedAt (keptPrices stand (before rt ri rp ut ui up uc ue st si sp sc se fs fp)) place (r .gap)) ⌝ }
+    ensures { λ r. ⌜ (r ≡ gapReport stand (before rt ri rp ut ui up uc ue st si sp sc se fs fp) place) × (r .failed ≡ 0 → ListedAt (stand .«ratio_places») (keptPrices stand (before rt ri rp ut ui up uc ue st si sp sc se fs fp)) place (r .gap)) ⌝ }
 {
     let n = stand.raw;
+    let places = stand.ratio_places;
     if !question4::is_sound(
         stand,
         rt,
@@ -82,7 +83,7 @@ pub fn check_gap_info(
     ) {
         return refused_gap(4);
     }
-    let a = bars::gap_among(rp, n, place);
+    let a = bars::gap_among(places, rp, n, place);
     given_pair(a)
 }
 
@@ -114,6 +115,7 @@ pub fn check_gaps(
     ensures { λ r. ⌜ gapsAnswered r (gapColumns (now (kinds .exit)) (now (values .exit)) (now (covered .exit))) ≡ gapsReport stand (before rt ri rp ut ui up uc ue st si sp sc se fs fp) (gapColumns (now (kinds .entry)) (now (values .entry)) (now (covered .entry))) ⌝ }
 {
     let n = stand.raw;
+    let places = stand.ratio_places;
     if !question4::is_sound(
         stand,
         rt,
@@ -137,7 +139,7 @@ pub fn check_gaps(
             count: 0,
         };
     }
-    let failed = bars::list_gaps(rp, n, kinds, values, covered);
+    let failed = bars::list_gaps(places, rp, n, kinds, values, covered);
     if failed > 0 {
         return GapsAnswer { failed, count: 0 };
     }

@@ -70,20 +70,20 @@ fn low(start: StrokeEnd, end: StrokeEnd) -> f64
 }
 
 // get_power_price of the source, of the two fx.
-pub fn power_price(s: f64, e: f64) -> f64
-    ensures { λ r. ⌜ ((b : Stroke) → s ≡ fxOf (b .start) → e ≡ fxOf (b .end) → r ≡ powerPrice b) ⌝ }
+pub fn power_price(places: usize, s: f64, e: f64) -> f64
+    ensures { λ r. ⌜ ((b : Stroke) → s ≡ fxOf (b .start) → e ≡ fxOf (b .end) → r ≡ powerPrice places b) ⌝ }
 {
-    arith::round_to_2_digit(arith::abs(e - s))
+    arith::round_to_nth_digit(arith::abs(e - s), places)
 }
 
 // get_change of the source, of the two fx.
-pub fn change(s: f64, e: f64) -> f64
-    ensures { λ r. ⌜ ((b : Stroke) → s ≡ fxOf (b .start) → e ≡ fxOf (b .end) → r ≡ changeOf b) ⌝ }
+pub fn change(places: usize, s: f64, e: f64) -> f64
+    ensures { λ r. ⌜ ((b : Stroke) → s ≡ fxOf (b .start) → e ≡ fxOf (b .end) → r ≡ changeOf places b) ⌝ }
 {
     if s == 0.0 {
         return 0.0;
     }
-    arith::round_to_4_digit((e - s) / s)
+    arith::round_to_nth_digit((e - s) / s, places)
 }
 
 // ---- of the merged bars
@@ -244,10 +244,16 @@ struct InnerMeasures {
     acceleration: f64,
 }
 
-// In two passes over the elements of the inner merged bars.
-fn inner_measures(rt: &[i64], rp: &[[f64; 6]], cs: &[usize], es: &[[i64; 101]]) -> InnerMeasures
+// In two passes over the elements of the inner merged bars. Power SNR has `places` places, SNR is not rounded.
+fn inner_measures(
+    places: usize,
+    rt: &[i64],
+    rp: &[[f64; 6]],
+    cs: &[usize],
+    es: &[[i64; 101]],
+) -> InnerMeasures
     requires { ⌜ (length (now cs) ≡ length (now es)) × (length (now rp) ≡ length (now rt)) ⌝ ∗ ⌜ T (rising (now rt)) ⌝ ∗ ⌜ T (namedRows (now rt) (now cs) (now es)) ⌝ }
-    ensures { λ r. ⌜ ((rs : List BarOf) → closesRead rs (now (rt .entry)) (now (rp .entry)) (elementsIn (now (cs .entry)) (now (es .entry))) → pairsRead rs (now (rt .entry)) (now (rp .entry)) (elementsIn (now (cs .entry)) (now (es .entry))) → (r .snr ≡ snrOf rs) × (r .«power_snr» ≡ powerSnr rs) × (r .slope ≡ slopeOf rs) × (r .acceleration ≡ accelerationOf rs)) ⌝ }
+    ensures { λ r. ⌜ ((rs : List BarOf) → closesRead rs (now (rt .entry)) (now (rp .entry)) (elementsIn (now (cs .entry)) (now (es .entry))) → pairsRead rs (now (rt .entry)) (now (rp .entry)) (elementsIn (now (cs .entry)) (now (es .entry))) → (r .snr ≡ snrOf rs) × (r .«power_snr» ≡ powerSnr places rs) × (r .slope ≡ slopeOf rs) × (r .acceleration ≡ accelerationOf rs)) ⌝ }
 {
     let none = InnerSums::new();
     let s = none.rows(rt, rp, cs, es);
@@ -257,7 +263,7 @@ fn inner_measures(rt: &[i64], rp: &[[f64; 6]], cs: &[usize], es: &[[i64; 101]]) 
     let zero = SlopeSums::new(m);
     let t = slope_rows(zero, rt, rp, cs, es);
     let snr = q.snr();
-    let power_snr = arith::round_to_4_digit(snr);
+    let power_snr = arith::round_to_nth_digit(snr, places);
     let slope = t.slope();
     let acceleration = f.acceleration();
     InnerMeasures {
@@ -271,8 +277,10 @@ fn inner_measures(rt: &[i64], rp: &[[f64; 6]], cs: &[usize], es: &[[i64; 101]]) 
 // ---- all of them
 
 // The measures of a stroke of this number of merged bars, between these ends: for the stroke b over the
-// raw bars `raw`, which stand in the columns.
+// raw bars `raw`, which stand in the columns. `power` and `ratio` are the places for power and for ratios.
 pub fn measures_of(
+    power: usize,
+    ratio: usize,
     rt: &[i64],
     rp: &[[f64; 6]],
     sp: &[[f64; 6]],
@@ -283,16 +291,16 @@ pub fn measures_of(
     end: StrokeEnd,
 ) -> Measures
     requires { ⌜ (length (now sc) ≡ length (now se)) × (length (now rp) ≡ length (now rt)) ⌝ ∗ ⌜ T (rising (now rt)) ⌝ ∗ ⌜ T (namedRows (now rt) (now sc) (now se)) ⌝ }
-    ensures { λ r. ⌜ ((raw : List BarOf) (b : Stroke) → endOf (b .start) ≡ start → endOf (b .end) ≡ end → bars ≡ length (b .bars) → InColumns raw b (now (rt .entry)) (now (rp .entry)) (now (sp .entry)) (now (sc .entry)) (now (se .entry)) → r ≡ measuresOf raw b) ⌝ }
+    ensures { λ r. ⌜ ((raw : List BarOf) (b : Stroke) → endOf (b .start) ≡ start → endOf (b .end) ≡ end → bars ≡ length (b .bars) → InColumns raw b (now (rt .entry)) (now (rp .entry)) (now (sp .entry)) (now (sc .entry)) (now (se .entry)) → r ≡ measuresOf power ratio raw b) ⌝ }
 {
     let s = fx(start);
     let e = fx(end);
     let h = high(start, end);
     let w = low(start, end);
-    let p = power_price(s, e);
+    let p = power_price(power, s, e);
     let v = volume(sp);
-    let d = change(s, e);
-    let i = inner_measures(rt, rp, sc, se);
+    let d = change(ratio, s, e);
+    let i = inner_measures(ratio, rt, rp, sc, se);
     Measures {
         high: h,
         low: w,

@@ -20,7 +20,7 @@ use Rattle.stores.proofs.Columns.{raw-length, merged-length}
 use Rattle.strokes.specs.declared.Stand.{Stand}
 use Rattle.machine.specs.Fractals.{Fractal}
 use Rattle.machine.specs.Stand.{Settings, State}
-use Rattle.machine.specs.Soundness.{isRoom, roomsPass, barsOf, fewerFractals, countsFit, isSetting, settingsPass, fewStrokes, rawPass, mergedPass, rises, barTimes, mergedTimes, strokeRises, timesRise, strokesPass, elementsKept, closes, newestIn, newestLast, settingsSound, listsSound, soundBut, sound}
+use Rattle.machine.specs.Soundness.{isRoom, roomsPass, barsOf, fewerFractals, countsFit, isSetting, isPlaces, settingsPass, fewStrokes, rawPass, mergedPass, rises, barTimes, mergedTimes, strokeRises, timesRise, strokesPass, elementsKept, closes, newestIn, newestLast, settingsSound, listsSound, soundBut, sound}
 use Rattle.strokes.specs.StateRead.{strokeWith, strokesWith, storedFractals, settingsOf, stateOf, barCounts, fractalCounts, total, storesSized, countsSized, elementsSized, sized}
 use Rattle.strokes.specs.Lent.{Stores}
 use Rattle.strokes.specs.Code.BarSteps.{RisingRaw, LastHas}
@@ -228,7 +228,8 @@ module _ (s : Stand) (m : Stores) (lb : length (s .bars) ≡ 65) (lf : length (s
   settings-are : Setting (s .minimum) × Setting (s .most)
   unfolding settingsPass settingsOf
   settings-are =
-      let a = both (isSetting (s .minimum)) (isSetting (s .most)) (c .settings) in
+      let p = both (isSetting (s .minimum) && isSetting (s .most)) (isPlaces (s .«power_places») && isPlaces (s .«ratio_places»)) (c .settings) in
+      let a = both (isSetting (s .minimum)) (isSetting (s .most)) (p .0) in
       (is-setting (s .minimum) (a .0), is-setting (s .most) (a .1))
 
   raw-many : length ((stateOf s m) .raw) ≡ s .raw

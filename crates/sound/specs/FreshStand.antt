@@ -1,4 +1,4 @@
--- Document 01's fresh analyzer: questions 1 to 3, and the stand that it begins with. Definitions only.
+-- Document 01's fresh analyzer, with document 02's request two: questions 1, 2, 17 and 3, in this order, and the stand that it begins with. Definitions only.
 use Prim.Native.Nat.{ℕ, zero, suc}
 use mathlib.Core.Bool.{Bool, true, false, _&&_, cond}
 use mathlib.Core.List.{List, []}
@@ -10,7 +10,7 @@ use Rattle.strokes.specs.Lent.{Stores}
 use Rattle.strokes.specs.StateRead.{rawSized, mergedSized, fractalSized}
 use Rattle.sound.specs.declared.fresh_stand.FreshAnswer.{FreshAnswer}
 use Rattle.machine.specs.FeedQuestions.{orElse}
-use Rattle.machine.specs.Soundness.{isRoom}
+use Rattle.machine.specs.Soundness.{isRoom, isPlaces}
 
 -- ---- questions 1 and 2
 
@@ -21,6 +21,13 @@ isAsked n = leb n 64
 -- 0 means the default: 6 for the minimum length, 50 for the most strokes
 unfoldable pub orDefault : ℕ → ℕ → ℕ
 orDefault n d = cond (eqb n 0) d n
+
+-- ---- question 17
+
+-- are the places for power and the places for ratios each 0 to 6? 0 means none, and no default.
+unfoldable pub question17 : ℕ → ℕ → Bool
+unfolding isPlaces
+question17 power ratio = isPlaces power && isPlaces ratio
 
 -- ---- question 3
 
@@ -45,14 +52,15 @@ question3 m = columnsAgree (roomsOf m) m && roomsFit (roomsOf m)
 
 -- ---- the answer
 
--- the first of questions 1 to 3 that is answered "no", or 0
-unfoldable pub freshFailed : ℕ → ℕ → Stores → ℕ
-unfolding orElse isAsked question3
-freshFailed minimum most m = orElse (isAsked minimum) 1 (orElse (isAsked most) 2 (orElse (question3 m) 3 0))
+-- the first of these questions that is answered "no", or 0
+unfoldable pub freshFailed : ℕ → ℕ → ℕ → ℕ → Stores → ℕ
+unfolding orElse isAsked question17 question3
+freshFailed minimum most power ratio m =
+    orElse (isAsked minimum) 1 (orElse (isAsked most) 2 (orElse (question17 power ratio) 17 (orElse (question3 m) 3 0)))
 
 -- a stand that holds nothing
-unfoldable pub emptyStand : ℕ → ℕ → Rooms → Stand
-emptyStand minimum most rooms =
+unfoldable pub emptyStand : ℕ → ℕ → ℕ → ℕ → Rooms → Stand
+emptyStand minimum most power ratio rooms =
     record {
       minimum = minimum;
       most = most;
@@ -62,19 +70,21 @@ emptyStand minimum most rooms =
       strokes = 0;
       bars = replicate 65 0;
       fractals = replicate 65 0;
+      «power_places» = power;
+      «ratio_places» = ratio;
     }
 
 -- what a refusal hands back beside its number: settings of 0, which no later call takes for sound
 unfoldable pub noStand : Stand
 unfolding emptyStand
-noStand = emptyStand 0 0 (record { raw = 0; unfinished = 0; strokes = 0 })
+noStand = emptyStand 0 0 0 0 (record { raw = 0; unfinished = 0; strokes = 0 })
 
 -- by the first question that failed: the lengths of the lent stores are recorded
-unfoldable pub freshBy : ℕ → ℕ → ℕ → Stores → FreshAnswer
+unfoldable pub freshBy : ℕ → ℕ → ℕ → ℕ → ℕ → Stores → FreshAnswer
 unfolding emptyStand noStand orDefault roomsOf
-freshBy zero minimum most m = record { refused = 0; stand = emptyStand (orDefault minimum 6) (orDefault most 50) (roomsOf m) }
-freshBy (suc n) minimum most m = record { refused = suc n; stand = noStand }
+freshBy zero minimum most power ratio m = record { refused = 0; stand = emptyStand (orDefault minimum 6) (orDefault most 50) power ratio (roomsOf m) }
+freshBy (suc n) minimum most power ratio m = record { refused = suc n; stand = noStand }
 
-unfoldable pub freshOf : ℕ → ℕ → Stores → FreshAnswer
+unfoldable pub freshOf : ℕ → ℕ → ℕ → ℕ → Stores → FreshAnswer
 unfolding freshBy freshFailed
-freshOf minimum most m = freshBy (freshFailed minimum most m) minimum most m
+freshOf minimum most power ratio m = freshBy (freshFailed minimum most power ratio m) minimum most power ratio m

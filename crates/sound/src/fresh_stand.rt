@@ -2,9 +2,9 @@
 ghost use mathlib.Core.Path.{_≡_};
 ghost use lib.ListN.{length};
 ghost use Rattle.machine.specs.FeedQuestions.{orElse};
-ghost use Rattle.machine.specs.Soundness.{isRoom};
+ghost use Rattle.machine.specs.Soundness.{isRoom, isPlaces};
 ghost use Rattle.strokes.specs.Lent.{before};
-ghost use Rattle.sound.specs.FreshStand.{isAsked, roomsFit, orDefault, emptyStand, freshOf};
+ghost use Rattle.sound.specs.FreshStand.{isAsked, question17, roomsFit, orDefault, emptyStand, freshOf};
 use super::soundness::columns_agree;
 use bars::both;
 use strokes::Rooms;
@@ -17,8 +17,8 @@ pub struct FreshAnswer {
     pub stand: Stand,
 }
 
-fn empty_stand(minimum: usize, most: usize, rooms: Rooms) -> Stand
-    ensures { λ r. ⌜ r ≡ emptyStand minimum most rooms ⌝ }
+fn empty_stand(minimum: usize, most: usize, power: usize, ratio: usize, rooms: Rooms) -> Stand
+    ensures { λ r. ⌜ r ≡ emptyStand minimum most power ratio rooms ⌝ }
 {
     Stand {
         minimum,
@@ -29,6 +29,8 @@ fn empty_stand(minimum: usize, most: usize, rooms: Rooms) -> Stand
         strokes: 0,
         bars: [0; 65],
         fractals: [0; 65],
+        power_places: power,
+        ratio_places: ratio,
     }
 }
 
@@ -56,6 +58,13 @@ fn or_default(n: usize, d: usize) -> usize
     n
 }
 
+// How many decimal places a setting may ask for.
+pub fn is_places(n: usize) -> bool
+    ensures { λ r. ⌜ r ≡ isPlaces n ⌝ }
+{
+    n <= 6
+}
+
 // How many bars the lent stores hold, by their columns of times.
 fn rooms_of(rt: &[i64], ut: &[i64], st: &[i64]) -> Rooms
     ensures { λ r. ⌜ r ≡ record { raw = length (now (rt .entry)); unfinished = length (now (ut .entry)); strokes = length (now (st .entry)) } ⌝ }
@@ -67,15 +76,18 @@ fn rooms_of(rt: &[i64], ut: &[i64], st: &[i64]) -> Rooms
     }
 }
 
-// Questions 1 to 3, where `hold` answers the third: the number of the first one that is answered "no", or 0.
-fn fresh_failed(minimum: usize, most: usize, hold: bool) -> u64
-    ensures { λ r. ⌜ r ≡ orElse (isAsked minimum) 1 (orElse (isAsked most) 2 (orElse hold 3 0)) ⌝ }
+// Questions 1, 2, 17 and 3, where `hold` answers the last: the number of the first one that is answered "no", or 0.
+fn fresh_failed(minimum: usize, most: usize, power: usize, ratio: usize, hold: bool) -> u64
+    ensures { λ r. ⌜ r ≡ orElse (isAsked minimum) 1 (orElse (isAsked most) 2 (orElse (question17 power ratio) 17 (orElse hold 3 0))) ⌝ }
 {
     if 64 < minimum {
         return 1;
     }
     if 64 < most {
         return 2;
+    }
+    if !both(is_places(power), is_places(ratio)) {
+        return 17;
     }
     if hold {
         return 0;
@@ -84,11 +96,13 @@ fn fresh_failed(minimum: usize, most: usize, hold: bool) -> u64
 }
 
 // A fresh analyzer for the lent stores, whose lengths it records: no cell of them is read. A minimum
-// of 0 means 6, most strokes of 0 mean 50. A refusal hands back a stand that is not sound with any
-// stores.
+// of 0 means 6, most strokes of 0 mean 50. `power` and `ratio` are the decimal places for power and for
+// ratios, each 0 to 6, where 0 is none. A refusal hands back a stand that is not sound with any stores.
 pub fn fresh(
     minimum: usize,
     most: usize,
+    power: usize,
+    ratio: usize,
     rt: &[i64],
     ri: &[i32],
     rp: &[[f64; 6]],
@@ -105,7 +119,7 @@ pub fn fresh(
     fs: &[[i64; 6]],
     fp: &[[f64; 18]],
 ) -> FreshAnswer
-    ensures { λ r. ⌜ r ≡ freshOf minimum most (before rt ri rp ut ui up uc ue st si sp sc se fs fp) ⌝ }
+    ensures { λ r. ⌜ r ≡ freshOf minimum most power ratio (before rt ri rp ut ui up uc ue st si sp sc se fs fp) ⌝ }
 {
     let rooms = rooms_of(rt, ut, st);
     let agree = columns_agree(
@@ -126,9 +140,15 @@ pub fn fresh(
         fs,
         fp,
     );
-    let failed = fresh_failed(minimum, most, both(agree, rooms_fit(rooms)));
+    let failed = fresh_failed(minimum, most, power, ratio, both(agree, rooms_fit(rooms)));
     if failed == 0 {
-        let stand = empty_stand(or_default(minimum, 6), or_default(most, 50), rooms);
+        let stand = empty_stand(
+            or_default(minimum, 6),
+            or_default(most, 50),
+            power,
+            ratio,
+            rooms,
+        );
         return FreshAnswer { refused: 0, stand };
     }
     let none = Rooms {
@@ -136,7 +156,7 @@ pub fn fresh(
         unfinished: 0,
         strokes: 0,
     };
-    let stand = empty_stand(0, 0, none);
+    let stand = empty_stand(0, 0, 0, 0, none);
     FreshAnswer {
         refused: failed,
         stand,

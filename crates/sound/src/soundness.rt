@@ -19,6 +19,7 @@ ghost use Rattle.sound.specs.Code.SoundStand.{inTime, timesPass, sizeOf,
 ghost use Rattle.sound.specs.FreshStand.{columnsAgree};
 ghost use Rattle.sound.specs.StandSound.{storesSound};
 ghost use Rattle.stores.specs.Lent.{rawBefore, mergedBefore};
+use super::fresh_stand::is_places;
 use super::fresh_stand::rooms_fit;
 use bars::both;
 use bars::from_zero;
@@ -780,7 +781,10 @@ fn numbers_pass(stand: Stand) -> bool
     );
     let settings = both(
         rooms_fit(rooms),
-        both(is_setting(stand.minimum), is_setting(stand.most)),
+        both(
+            both(is_setting(stand.minimum), is_setting(stand.most)),
+            both(is_places(stand.power_places), is_places(stand.ratio_places)),
+        ),
     );
     both(counts, settings)
 }

@@ -58,6 +58,8 @@ keeping K n =
       strokes = 0;
       bars = [];
       fractals = [];
+      «power_places» = 0;
+      «ratio_places» = 0;
     }
 
 module _ (s : Stand) (m : RawStore) (h : RisingRaw s m) (t : ℤ) (p : ℕ) (place : p ≡ placeOf t (take (s .raw) (m .times))) where

@@ -6,7 +6,7 @@ use lib.Dec.{leb}
 use lib.ListN.{length, getD, set}
 use Rattle.strokes.specs.declared.Stand.{Stand}
 
--- the stand of these eight numbers and of these numbers of bars and of fractals
+-- the stand of these ten numbers and of these numbers of bars and of fractals
 unfoldable pub standOf : List ℕ → List ℕ → List ℕ → Stand
 standOf n b f =
     record {
@@ -18,6 +18,8 @@ standOf n b f =
       strokes = getD n 7 0;
       bars = b;
       fractals = f;
+      «power_places» = getD n 8 0;
+      «ratio_places» = getD n 9 0;
     }
 
 -- the stand that is packed in the first row of ns and the first two rows of cs
@@ -25,10 +27,11 @@ unfoldable pub packed : List (List ℕ) → List (List ℕ) → Stand
 unfolding standOf
 packed ns cs = standOf (getD ns 0 []) (getD cs 0 []) (getD cs 1 [])
 
--- a stand's eight numbers
+-- a stand's ten numbers
 unfoldable pub numbersOf : Stand → List ℕ
 numbersOf s =
-    s .minimum ∷ s .most ∷ s .rooms .raw ∷ s .rooms .unfinished ∷ s .rooms .strokes ∷ s .raw ∷ s .unfinished ∷ s .strokes ∷ []
+    s .minimum ∷ s .most ∷ s .rooms .raw ∷ s .rooms .unfinished ∷ s .rooms .strokes ∷ s .raw ∷ s .unfinished ∷ s .strokes
+    ∷ s .«power_places» ∷ s .«ratio_places» ∷ []
 
 -- the rows with this stand packed in them; every other row stays
 unfoldable pub numbersWith : Stand → List (List ℕ) → List (List ℕ)

@@ -68,6 +68,8 @@ settingsOf s =
       rawRoom = s .rooms .raw;
       unfinishedRoom = s .rooms .unfinished;
       strokeRoom = s .rooms .strokes;
+      powerPlaces = s .«power_places»;
+      ratioPlaces = s .«ratio_places»;
     }
 
 -- how many bars, and how many fractals, each kept stroke has

@@ -27,7 +27,8 @@ pub struct Rooms {
 
 // Document 01's stand, by value: settings, the rooms of the lent stores, and counts. `strokes` is the
 // number of strokes kept; `bars` and `fractals` have the number of merged bars and of fractals of
-// each, oldest first. A stroke just made counts before one is shed, so there are 65 places.
+// each, oldest first. A stroke just made counts before one is shed, so there are 65 places. The last
+// two are settings: how many decimal places power and ratios are rounded to.
 pub struct Stand {
     pub minimum: usize,
     pub most: usize,
@@ -37,4 +38,6 @@ pub struct Stand {
     pub strokes: usize,
     pub bars: [u32; 65],
     pub fractals: [u32; 65],
+    pub power_places: usize,
+    pub ratio_places: usize,
 }

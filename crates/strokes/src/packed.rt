@@ -1,5 +1,5 @@
-// A stand packed in lent rows of numbers, for those who keep stands between two calls. `numbers` has one row: minimum, most, the three rooms, and the numbers
-// of raw bars, of unfinished bars and of strokes. `counts` has two: the strokes' numbers of bars and of fractals. Rows behind these stay as they are.
+// A stand packed in lent rows of numbers, for those who keep stands between two calls. `numbers` has one row: minimum, most, the three rooms, the numbers of
+// raw bars, of unfinished bars and of strokes, and the places for power and for ratios. `counts` has two: the strokes' numbers of bars and of fractals. Rows behind these stay as they are.
 ghost use mathlib.Core.Path.{_≡_};
 ghost use Prim.Native.Nat.{_≤_};
 ghost use lib.ListN.{length};
@@ -8,7 +8,7 @@ use crate::Rooms;
 use crate::Stand;
 
 // Whether so many rows of numbers and of counts hold a stand.
-pub fn rows_there(numbers: &[[usize; 8]], counts: &[[u32; 65]]) -> bool
+pub fn rows_there(numbers: &[[usize; 10]], counts: &[[u32; 65]]) -> bool
     ensures { λ r. ⌜ r ≡ rowsThere (now (numbers .entry)) (now (counts .entry)) ⌝ }
 {
     if numbers.len() < 1 {
@@ -17,7 +17,7 @@ pub fn rows_there(numbers: &[[usize; 8]], counts: &[[u32; 65]]) -> bool
     2 <= counts.len()
 }
 
-fn stand_of(n: [usize; 8], bars: [u32; 65], fractals: [u32; 65]) -> Stand
+fn stand_of(n: [usize; 10], bars: [u32; 65], fractals: [u32; 65]) -> Stand
     ensures { λ r. ⌜ r ≡ standOf n bars fractals ⌝ }
 {
     let rooms = Rooms {
@@ -34,10 +34,12 @@ fn stand_of(n: [usize; 8], bars: [u32; 65], fractals: [u32; 65]) -> Stand
         strokes: n[7],
         bars,
         fractals,
+        power_places: n[8],
+        ratio_places: n[9],
     }
 }
 
-pub fn unpack(numbers: &[[usize; 8]], counts: &[[u32; 65]]) -> Stand
+pub fn unpack(numbers: &[[usize; 10]], counts: &[[u32; 65]]) -> Stand
     requires { ⌜ (1 ≤ length (now numbers)) × (2 ≤ length (now counts)) ⌝ }
     ensures { λ r. ⌜ r ≡ packed (now (numbers .entry)) (now (counts .entry)) ⌝ }
 {
@@ -47,7 +49,7 @@ pub fn unpack(numbers: &[[usize; 8]], counts: &[[u32; 65]]) -> Stand
     stand_of(n, bars, fractals)
 }
 
-pub fn pack(stand: Stand, numbers: &mut [[usize; 8]], counts: &mut [[u32; 65]])
+pub fn pack(stand: Stand, numbers: &mut [[usize; 10]], counts: &mut [[u32; 65]])
     requires { ⌜ (1 ≤ length (now numbers)) × (2 ≤ length (now counts)) ⌝ }
     ensures { λ _. ⌜ (now (numbers .exit) ≡ numbersWith stand (now (numbers .entry))) × (now (counts .exit) ≡ countsWith stand (now (counts .entry))) ⌝ }
 {
@@ -63,6 +65,8 @@ pub fn pack(stand: Stand, numbers: &mut [[usize; 8]], counts: &mut [[u32; 65]])
         stand.raw,
         stand.unfinished,
         stand.strokes,
+        stand.power_places,
+        stand.ratio_places,
     ];
     counts[0] = bars;
     counts[1] = fractals;

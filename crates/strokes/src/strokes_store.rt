@@ -247,6 +247,8 @@ fn shed_counts(stand: Stand) -> Stand
         strokes: stand.strokes - 1,
         bars: b,
         fractals: f,
+        power_places: stand.power_places,
+        ratio_places: stand.ratio_places,
     }
 }
 
@@ -270,6 +272,8 @@ fn with_stroke(stand: Stand, n: usize, m: usize) -> Stand
         strokes: at + 1,
         bars: bars,
         fractals: fractals,
+        power_places: stand.power_places,
+        ratio_places: stand.ratio_places,
     }
 }
 

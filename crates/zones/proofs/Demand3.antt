@@ -18,7 +18,7 @@ good-inside : (b : Stroke) → Good b → Inside b
 good-inside b g =
     let f : FakesOf (b .start) (b .end) (fakes (b .fractals)) =
     subst (λ z. FakesOf (b .start) (b .end) (fakes z)) (sym (g .listed)) (fakes-of (b .start) (g .before) (b .end) (g .more) (g .few) none (g .alternate) (g .turns)) in
-    record { fake = f; count = fakes-count (b .start) (b .end) (b .fractals) f; told = fakes-told (b .start) (b .end) (b .fractals) f; extreme = g .extreme }
+    record { fake = f; count = λ d. fakes-count d (b .start) (b .end) (b .fractals) f; told = λ d. fakes-told d (b .start) (b .end) (b .fractals) f; extreme = g .extreme }
 
 pub demand3 : Demand3
 unfolding kept

@@ -67,56 +67,57 @@ fakes-items l =
     (λ j h. λ i. record { first = even-at l (0 + j) (omega arith) i; second = even-at l (0 + j + 1) (omega arith) i })
     ∙ ap (itemsFrom (fakeAmong l) 0) e
 
-pub fakes-read : (l : List Fractal) → createFakeBis l ≡ itemsFrom (λ (j : ℕ). fakeOf (fakeAmong l j)) 0 (fakeCount (length l))
+pub fakes-read : (d : ℕ) (l : List Fractal) → createFakeBis d l ≡ itemsFrom (λ (j : ℕ). fakeOf d (fakeAmong l j)) 0 (fakeCount (length l))
 unfolding createFakeBis
-fakes-read l = ap (map fakeOf) (fakes-items l) ∙ items-map fakeOf (fakeAmong l) 0 (fakeCount (length l))
+fakes-read d l = ap (map (fakeOf d)) (fakes-items l) ∙ items-map (fakeOf d) (fakeAmong l) 0 (fakeCount (length l))
 
 count-less : (m : ℕ) → 1 ≤ m → fakeCount m + 1 ≤ m
 unfolding fakeCount
 count-less m h = omega arith
 
 -- those of a kept stroke
-pub fakes-are : (s : Stand) (f : FractalStore) (n i : ℕ) → SizedFractals f n → StrokeStands s f i → readFakes s f i ≡ createFakeBis (fractalsAt s f i)
+pub fakes-are : (s : Stand) (f : FractalStore) (n i : ℕ) → SizedFractals f n → StrokeStands s f i → readFakes s f i ≡ createFakeBis (s .«power_places») (fractalsAt s f i)
 unfolding readFakes fakeAt
 fakes-are s f n i z h =
+    let places = s .«power_places» in
     let l = fractalsAt s f i in
     let a = strokePlace s i in
     let m = fractalNumber s i in
     let less = count-less m (h .some) in
-    items-same (fakeAt f) (λ (j : ℕ). fakeOf (fakeAmong l j)) a 0 (fakeCount m)
+    items-same (fakeAt places f) (λ (j : ℕ). fakeOf places (fakeAmong l j)) a 0 (fakeCount m)
     (λ j t.
     let e : a + j + 1 ≡ a + (j + 1) = omega arith in
     let d : j ≡ 0 + j = omega arith in
-    ap (λ (x : ℕ). fakeOfTwo (markAt f (a + j)) (middleAt f (a + j)) (middleAt f x)) e
-    ∙ (λ x. fakeOfTwo (sym (mark-at s f n i z h j (omega arith)) x) (sym (middle-at s f n i z h j (omega arith)) x) (sym (middle-at s f n i z h (j + 1) (omega arith)) x))
-    ∙ fake-of-two (fakeAmong l j)
-    ∙ ap (λ (x : ℕ). fakeOf (fakeAmong l x)) d)
-    ∙ ap (itemsFrom (λ (j : ℕ). fakeOf (fakeAmong l j)) 0) (ap fakeCount (sym (fractals-length s f n i z h)))
-    ∙ sym (fakes-read l)
+    ap (λ (x : ℕ). fakeOfTwo places (markAt f (a + j)) (middleAt f (a + j)) (middleAt f x)) e
+    ∙ (λ x. fakeOfTwo places (sym (mark-at s f n i z h j (omega arith)) x) (sym (middle-at s f n i z h j (omega arith)) x) (sym (middle-at s f n i z h (j + 1) (omega arith)) x))
+    ∙ fake-of-two places (fakeAmong l j)
+    ∙ ap (λ (x : ℕ). fakeOf places (fakeAmong l x)) d)
+    ∙ ap (itemsFrom (λ (j : ℕ). fakeOf places (fakeAmong l j)) 0) (ap fakeCount (sym (fractals-length s f n i z h)))
+    ∙ sym (fakes-read places l)
 
 -- ---- writing them
 
 -- a fake stroke that the code has read
-pub fake-read : (f : FractalStore) (p : ℕ) (m : Mark) (a b : Candle) (r : FakeStroke) → m ≡ rowMark (getD (f .prices) p []) → a ≡ middleAt f p → b ≡ middleAt f (p + 1) → r ≡ fakeOfTwo m a b → r ≡ fakeAt f p
+pub fake-read : (places : ℕ) (f : FractalStore) (p : ℕ) (m : Mark) (a b : Candle) (r : FakeStroke) → m ≡ rowMark (getD (f .prices) p []) → a ≡ middleAt f p → b ≡ middleAt f (p + 1) → r ≡ fakeOfTwo places m a b → r ≡ fakeAt places f p
 unfolding fakeAt markAt
-fake-read f p m a b r em ea eb er = er ∙ (λ i. fakeOfTwo (em i) (ea i) (eb i))
+fake-read places f p m a b r em ea eb er = er ∙ (λ i. fakeOfTwo places (em i) (ea i) (eb i))
 
 -- the columns d after the first j
-pub record Writing (f : FractalStore) (p : ℕ) (d w : FakeColumns) (j : ℕ) : Type 0 where
-  pub columns : w ≡ putFakes d (itemsFrom (fakeAt f) p j)
+pub record Writing (places : ℕ) (f : FractalStore) (p : ℕ) (d w : FakeColumns) (j : ℕ) : Type 0 where
+  pub columns : w ≡ putFakes d (itemsFrom (fakeAt places f) p j)
   pub times : length (w .times) ≡ length (d .times)
   pub prices : length (w .prices) ≡ length (d .prices)
   pub codes : length (w .codes) ≡ length (d .codes)
 
-pub writing-none : (f : FractalStore) (p : ℕ) (d : FakeColumns) → Writing f p d d 0
+pub writing-none : (places : ℕ) (f : FractalStore) (p : ℕ) (d : FakeColumns) → Writing places f p d d 0
 unfolding putFakes itemsFrom
-writing-none f p d = record { columns = λ i. fakeColumns (put-none (d .times) i) (put-none (d .prices) i) (put-none (d .codes) i); times = refl; prices = refl; codes = refl }
+writing-none places f p d = record { columns = λ i. fakeColumns (put-none (d .times) i) (put-none (d .prices) i) (put-none (d .codes) i); times = refl; prices = refl; codes = refl }
 
-pub writing-turn : (f : FractalStore) (p j n : ℕ) (d w w' : FakeColumns) (k : FakeStroke) → RoomFakes d n → j < n → Writing f p d w j → k ≡ fakeAt f (p + j)
+pub writing-turn : (places : ℕ) (f : FractalStore) (p j n : ℕ) (d w w' : FakeColumns) (k : FakeStroke) → RoomFakes d n → j < n → Writing places f p d w j → k ≡ fakeAt places f (p + j)
     → w' ≡ fakeColumns (set (w .times) j (fakeTimes k)) (set (w .prices) j (fakePrices k)) (set (w .codes) j (fakeCode k))
-    → Writing f p d w' (j + 1)
+    → Writing places f p d w' (j + 1)
 unfolding putFakes
-writing-turn f p j n d w w' k room h g e q =
+writing-turn places f p j n d w w' k room h g e q =
     let g1 = room .times in
     let g2 = room .prices in
     let g3 = room .codes in
@@ -126,22 +127,22 @@ writing-turn f p j n d w w' k room h g e q =
           q
           ∙ (λ i.
           fakeColumns
-          (row-turn fakeTimes (fakeAt f) (d .times) (w .times) p j (fakeTimes k) (ap (λ (x : FakeColumns). x .times) c) (omega arith) (ap fakeTimes e) i)
-          (row-turn fakePrices (fakeAt f) (d .prices) (w .prices) p j (fakePrices k) (ap (λ (x : FakeColumns). x .prices) c) (omega arith) (ap fakePrices e) i)
-          (row-turn fakeCode (fakeAt f) (d .codes) (w .codes) p j (fakeCode k) (ap (λ (x : FakeColumns). x .codes) c) (omega arith) (ap fakeCode e) i));
+          (row-turn fakeTimes (fakeAt places f) (d .times) (w .times) p j (fakeTimes k) (ap (λ (x : FakeColumns). x .times) c) (omega arith) (ap fakeTimes e) i)
+          (row-turn fakePrices (fakeAt places f) (d .prices) (w .prices) p j (fakePrices k) (ap (λ (x : FakeColumns). x .prices) c) (omega arith) (ap fakePrices e) i)
+          (row-turn fakeCode (fakeAt places f) (d .codes) (w .codes) p j (fakeCode k) (ap (λ (x : FakeColumns). x .codes) c) (omega arith) (ap fakeCode e) i));
       times = ap (λ (x : FakeColumns). length (x .times)) q ∙ length-set (w .times) j (fakeTimes k) ∙ g .times;
       prices = ap (λ (x : FakeColumns). length (x .prices)) q ∙ length-set (w .prices) j (fakePrices k) ∙ g .prices;
       codes = ap (λ (x : FakeColumns). length (x .codes)) q ∙ length-set (w .codes) j (fakeCode k) ∙ g .codes;
     }
 
-pub writing-end : (f : FractalStore) (p j n : ℕ) (d w : FakeColumns) → j ≤ n → n ≤ j → Writing f p d w j → w ≡ putFakes d (itemsFrom (fakeAt f) p n)
-writing-end f p j n d w h k g = let q : j ≡ n = omega arith in g .columns ∙ ap (λ (x : ℕ). putFakes d (itemsFrom (fakeAt f) p x)) q
+pub writing-end : (places : ℕ) (f : FractalStore) (p j n : ℕ) (d w : FakeColumns) → j ≤ n → n ≤ j → Writing places f p d w j → w ≡ putFakes d (itemsFrom (fakeAt places f) p n)
+writing-end places f p j n d w h k g = let q : j ≡ n = omega arith in g .columns ∙ ap (λ (x : ℕ). putFakes d (itemsFrom (fakeAt places f) p x)) q
 
 -- those of a stroke, by the numbers that the code has computed
 pub put-done : (s : Stand) (f : FractalStore) (i place n : ℕ) (d w : FakeColumns) → place ≡ total (take i (s .bars)) → n ≡ fakeCount (getD (s .fractals) i 0)
-    → w ≡ putFakes d (itemsFrom (fakeAt f) place n) → w ≡ putFakes d (readFakes s f i)
+    → w ≡ putFakes d (itemsFrom (fakeAt (s .«power_places») f) place n) → w ≡ putFakes d (readFakes s f i)
 unfolding readFakes strokePlace fractalNumber
-put-done s f i place n d w ep en e = e ∙ (λ j. putFakes d (itemsFrom (fakeAt f) (ep j) (en j)))
+put-done s f i place n d w ep en e = e ∙ (λ j. putFakes d (itemsFrom (fakeAt (s .«power_places») f) (ep j) (en j)))
 
 pub rows-fit : (s : Stand) (f : FractalStore) (i place n : ℕ) → StrokeStands s f i → place ≡ total (take i (s .bars)) → n ≡ fakeCount (getD (s .fractals) i 0) → RoomFractals f (place + n + 1)
 unfolding strokePlace fractalNumber

@@ -1,6 +1,6 @@
 -- The fake strokes of an alternating list that begins on a and ends on b, or on one fractal more, run from a to b and are odd in number.
 -- Assumes nothing.
-use Prim.Native.Nat.{_%_}
+use Prim.Native.Nat.{ℕ, _%_}
 use native.Mathlib.Omega.{arith}
 use mathlib.Core.Path.{_≡_, refl, ap, sym, _∙_, subst}
 use mathlib.Core.Bool.{not}
@@ -53,14 +53,14 @@ fakes-of a (m ∷ n ∷ mid) b t h p alt d =
 -- ---- as they are answered
 
 -- what is read of one
-fake-from : (m : Mark) (f : Fake) → ((fakeFrom m f) .sdt ≡ timeOf (f .first)) × ((fakeFrom m f) .direction ≡ directionOf (f .first .mark)) × ((fakeFrom m f) .edt ≡ timeOf (f .second))
+fake-from : (d : ℕ) (m : Mark) (f : Fake) → ((fakeFrom d m f) .sdt ≡ timeOf (f .first)) × ((fakeFrom d m f) .direction ≡ directionOf (f .first .mark)) × ((fakeFrom d m f) .edt ≡ timeOf (f .second))
 unfolding fakeFrom fakeWith fakeDirection
-fake-from D f = (refl, refl, refl)
-fake-from G f = (refl, refl, refl)
+fake-from d D f = (refl, refl, refl)
+fake-from d G f = (refl, refl, refl)
 
-fake-of : (f : Fake) → ((fakeOf f) .sdt ≡ timeOf (f .first)) × ((fakeOf f) .direction ≡ directionOf (f .first .mark)) × ((fakeOf f) .edt ≡ timeOf (f .second))
+fake-of : (d : ℕ) (f : Fake) → ((fakeOf d f) .sdt ≡ timeOf (f .first)) × ((fakeOf d f) .direction ≡ directionOf (f .first .mark)) × ((fakeOf d f) .edt ≡ timeOf (f .second))
 unfolding fakeOf
-fake-of f = fake-from (f .first .mark) f
+fake-of d f = fake-from d (f .first .mark) f
 
 turns : (m n : Mark) → T (not (sameMark m n)) → turned (directionOf m) ≡ directionOf n
 unfolding sameMark turned directionOf
@@ -69,22 +69,22 @@ turns D G h = refl
 turns G D h = refl
 turns G G h = absurd h
 
-told-runs : (a z : Fractal) (l : List Fake) → Runs a l z → FakeChain (timeOf a) (directionOf (a .mark)) (map fakeOf l) (timeOf z)
-told-runs a z [] r = ap timeOf r
-told-runs a z (f ∷ l) r =
-    let p = fake-of f in (
+told-runs : (k : ℕ) (a z : Fractal) (l : List Fake) → Runs a l z → FakeChain (timeOf a) (directionOf (a .mark)) (map (fakeOf k) l) (timeOf z)
+told-runs k a z [] r = ap timeOf r
+told-runs k a z (f ∷ l) r =
+    let p = fake-of k f in (
       p .0 ∙ ap timeOf (r .0),
       p .1 ∙ ap (λ x. directionOf (x .mark)) (r .0),
-      subst (λ t. FakeChain t (turned (directionOf (a .mark))) (map fakeOf l) (timeOf z)) (sym (p .2))
-          (subst (λ d. FakeChain (timeOf (f .second)) d (map fakeOf l) (timeOf z))
+      subst (λ t. FakeChain t (turned (directionOf (a .mark))) (map (fakeOf k) l) (timeOf z)) (sym (p .2))
+          (subst (λ d. FakeChain (timeOf (f .second)) d (map (fakeOf k) l) (timeOf z))
           (sym (turns (f .first .mark) (f .second .mark) (r .1)) ∙ ap (λ x. turned (directionOf (x .mark))) (r .0))
-          (told-runs (f .second) z l (r .2))),
+          (told-runs k (f .second) z l (r .2))),
     )
 
-pub fakes-told : (a z : Fractal) (l : List Fractal) → FakesOf a z (fakes l) → FakeChain (timeOf a) (directionOf (a .mark)) (createFakeBis l) (timeOf z)
+pub fakes-told : (d : ℕ) (a z : Fractal) (l : List Fractal) → FakesOf a z (fakes l) → FakeChain (timeOf a) (directionOf (a .mark)) (createFakeBis d l) (timeOf z)
 unfolding createFakeBis
-fakes-told a z l f = told-runs a z (fakes l) (f .runs)
+fakes-told d a z l f = told-runs d a z (fakes l) (f .runs)
 
-pub fakes-count : (a z : Fractal) (l : List Fractal) → FakesOf a z (fakes l) → length (createFakeBis l) % 2 ≡ 1
+pub fakes-count : (d : ℕ) (a z : Fractal) (l : List Fractal) → FakesOf a z (fakes l) → length (createFakeBis d l) % 2 ≡ 1
 unfolding createFakeBis
-fakes-count a z l f = ap (λ n. n % 2) (length-map (fakes l) fakeOf) ∙ f .odd
+fakes-count d a z l f = ap (λ n. n % 2) (length-map (fakes l) (fakeOf d)) ∙ f .odd

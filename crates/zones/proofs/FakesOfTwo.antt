@@ -14,14 +14,14 @@ use Rattle.check_bi.specs.Code.Scan.{candleOf}
 use Rattle.zones.specs.FakeStrokes.{Fake, evenPart, pairs, fakes, fakeDirection, fakeWith, fakeFrom, fakeOf, createFakeBis}
 use Rattle.zones.specs.Code.FakeOfTwo.{fakeOfTwo, fakeCount}
 
-by-mark : (m : Mark) (l k r : Merged) (b : Fractal) → fakeOfTwo m (candleOf k) (candleOf (b .mid)) ≡ fakeOf (record { first = record { mark = m; left = l; mid = k; right = r }; second = b })
+by-mark : (d : ℕ) (m : Mark) (l k r : Merged) (b : Fractal) → fakeOfTwo d m (candleOf k) (candleOf (b .mid)) ≡ fakeOf d (record { first = record { mark = m; left = l; mid = k; right = r }; second = b })
 unfolding fakeOfTwo candleOf fakeOf fakeFrom fakeWith fakeDirection directionOf timeOf
-by-mark D l k r b = refl
-by-mark G l k r b = refl
+by-mark d D l k r b = refl
+by-mark d G l k r b = refl
 
 -- read of the two fractals of a fake stroke, it is fakeOf
-pub fake-of-two : (f : Fake) → fakeOfTwo (f .first .mark) (candleOf (f .first .mid)) (candleOf (f .second .mid)) ≡ fakeOf f
-fake-of-two f = by-mark (f .first .mark) (f .first .left) (f .first .mid) (f .first .right) (f .second)
+pub fake-of-two : (d : ℕ) (f : Fake) → fakeOfTwo d (f .first .mark) (candleOf (f .first .mid)) (candleOf (f .second .mid)) ≡ fakeOf d f
+fake-of-two d f = by-mark d (f .first .mark) (f .first .left) (f .first .mid) (f .first .right) (f .second)
 
 -- ---- how many
 
@@ -48,6 +48,6 @@ fakes-length (a ∷ b ∷ l) = ap suc (pairs-length b (evenPart l) ∙ even-leng
     two : (n : ℕ) → suc (n / 2 * 2) ≡ suc (suc n) / 2 * 2 - 1
     two n = omega arith
 
-pub fake-count : (l : List Fractal) → length (createFakeBis l) ≡ fakeCount (length l)
+pub fake-count : (d : ℕ) (l : List Fractal) → length (createFakeBis d l) ≡ fakeCount (length l)
 unfolding createFakeBis
-fake-count l = length-map (fakes l) fakeOf ∙ fakes-length l
+fake-count d l = length-map (fakes l) (fakeOf d) ∙ fakes-length l

@@ -123,7 +123,7 @@ module _ (s : Stand) (m : Stores) (lb : length (s .bars) ≡ 65) (lf : length (s
   unfolding fakesOf fractalsOf strokeWith
   fakes-is =
       fakes-are s (m .fractals) (s .rooms .strokes) place ((facts s m lb lf (sound-here s m lb lf place 1 n e z)) .fractals) stroke-here
-      ∙ ap (λ (x : Option Stroke). createFakeBis (fractalsOf x)) (sym (stroke-is s m lb lf (sound-here s m lb lf place 1 n e z) place below))
+      ∙ ap (λ (x : Option Stroke). createFakeBis (s .«power_places») (fractalsOf x)) (sym (stroke-is s m lb lf (sound-here s m lb lf place 1 n e z) place below))
 
   pub fakes-listed : (d : FakeColumns) (r : FakesCall) → r ≡ fakesIf (fakesFit d (readFakes s (m .fractals) place)) d (readFakes s (m .fractals) place) → r ≡ listedFakes s m place d
   unfolding listedFakes fakesAfter
@@ -144,7 +144,7 @@ fakes-refused s m place n d e h = fakes-refusal n d (fakesOf s m place) h ∙ ap
 fit-is : (s : Stand) (f : FractalStore) (i n : ℕ) (d : FakeColumns) → n ≡ fakeCount (fractalNumber s i) → (leb n (length (d .times)) && (leb n (length (d .prices)) && leb n (length (d .codes)))) ≡ fakesFit d (readFakes s f i)
 unfolding fakesFit question14 readFakes
 fit-is s f i n d e =
-    ap (λ (x : ℕ). leb x (length (d .times)) && (leb x (length (d .prices)) && leb x (length (d .codes)))) (e ∙ sym (items-length (fakeAt f) (strokePlace s i) (fakeCount (fractalNumber s i))))
+    ap (λ (x : ℕ). leb x (length (d .times)) && (leb x (length (d .prices)) && leb x (length (d .codes)))) (e ∙ sym (items-length (fakeAt (s .«power_places») f) (strokePlace s i) (fakeCount (fractalNumber s i))))
 
 and-three : (a b c : Bool) → (a && (b && c)) ≡ true → (a ≡ true) × (b ≡ true) × (c ≡ true)
 and-three true true true e = (refl, refl, refl)
@@ -167,7 +167,7 @@ module _ (s : Stand) (f : FractalStore) (i n : ℕ) (d : FakeColumns) (b : Bool)
       → fakesCall 0 r w ≡ fakesIf (fakesFit d (readFakes s f i)) d (readFakes s f i)
   unfolding fakesIf readFakes
   fakes-put r w t er ew =
-      (λ j. fakesCall 0 ((er ∙ sym (items-length (fakeAt f) (strokePlace s i) (fakeCount (fractalNumber s i)))) j) (ew j))
+      (λ j. fakesCall 0 ((er ∙ sym (items-length (fakeAt (s .«power_places») f) (strokePlace s i) (fakeCount (fractalNumber s i)))) j) (ew j))
       ∙ ap (λ (x : Bool). fakesIf x d (readFakes s f i)) (sym t ∙ eb ∙ fit-is s f i n d en)
 
   pub fakes-full : b ≡ false → fakesCall 14 0 d ≡ fakesIf (fakesFit d (readFakes s f i)) d (readFakes s f i)

@@ -32,9 +32,9 @@ FakeChain t d (f ∷ l) u = (f .sdt ≡ t) × (f .direction ≡ d) × FakeChain 
 pub record Inside (b : Stroke) : Type 0 where
   -- its fake strokes are odd in number, begin on its start, each where the one before ends and the other way, and end on its end
   pub fake : FakesOf (b .start) (b .end) (fakes (b .fractals))
-  -- the same of the fake strokes as they are answered: an odd number, from the start's time in the stroke's direction to the end's time
-  pub count : length (createFakeBis (b .fractals)) % 2 ≡ 1
-  pub told : FakeChain (timeOf (b .start)) (directionOf (b .start .mark)) (createFakeBis (b .fractals)) (timeOf (b .end))
+  -- the same of the fake strokes as they are answered, whatever the places for power: an odd number, from the start's time in the stroke's direction to the end's time
+  pub count : (d : ℕ) → length (createFakeBis d (b .fractals)) % 2 ≡ 1
+  pub told : (d : ℕ) → FakeChain (timeOf (b .start)) (directionOf (b .start .mark)) (createFakeBis d (b .fractals)) (timeOf (b .end))
   -- every other fractal of the end's mark inside it is less extreme, or equally extreme and later
   pub extreme : All (LessExtreme (b .end)) (b .fractals)
 

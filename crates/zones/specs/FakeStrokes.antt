@@ -1,4 +1,4 @@
--- Document 01's fake strokes: create_fake_bis. Definitions only.
+-- Document 01's fake strokes: create_fake_bis. d is the number of places for power (document 02, request two). Definitions only.
 use Prim.Native.Nat.{ℕ, _%_}
 use mathlib.Core.Path.{_≡_}
 use mathlib.Core.Bool.{Bool, true, false, not}
@@ -40,33 +40,33 @@ unfoldable pub fakeDirection : Fake → Direction
 unfolding directionOf
 fakeDirection f = directionOf (f .first .mark)
 
--- of this high and low: power is high minus low, rounded to 2 places
-unfoldable pub fakeWith : Fake → Float → Float → FakeStroke
+-- of this high and low: power is high minus low, rounded to d places
+unfoldable pub fakeWith : ℕ → Fake → Float → Float → FakeStroke
 unfolding fakeDirection timeOf roundTo sub
-fakeWith f h l =
+fakeWith d f h l =
     record {
       direction = fakeDirection f;
       sdt = timeOf (f .first);
       edt = timeOf (f .second);
       high = h;
       low = l;
-      power = roundTo 2 (sub binary64 h l);
+      power = roundTo d (sub binary64 h l);
     }
 
 -- by the mark of the first fractal: up has the second's high and the first's low, down the first's high and the second's low
-unfoldable pub fakeFrom : Mark → Fake → FakeStroke
+unfoldable pub fakeFrom : ℕ → Mark → Fake → FakeStroke
 unfolding fakeWith
-fakeFrom D f = fakeWith f (f .second .mid .bar .high) (f .first .mid .bar .low)
-fakeFrom G f = fakeWith f (f .first .mid .bar .high) (f .second .mid .bar .low)
+fakeFrom d D f = fakeWith d f (f .second .mid .bar .high) (f .first .mid .bar .low)
+fakeFrom d G f = fakeWith d f (f .first .mid .bar .high) (f .second .mid .bar .low)
 
-unfoldable pub fakeOf : Fake → FakeStroke
+unfoldable pub fakeOf : ℕ → Fake → FakeStroke
 unfolding fakeFrom
-fakeOf f = fakeFrom (f .first .mark) f
+fakeOf d f = fakeFrom d (f .first .mark) f
 
 -- create_fake_bis
-unfoldable pub createFakeBis : List Fractal → List FakeStroke
+unfoldable pub createFakeBis : ℕ → List Fractal → List FakeStroke
 unfolding fakes fakeOf
-createFakeBis l = map fakeOf (fakes l)
+createFakeBis d l = map (fakeOf d) (fakes l)
 
 -- ---- what demand 3 says of them
 

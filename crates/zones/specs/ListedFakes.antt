@@ -15,10 +15,10 @@ use Rattle.zones.specs.FakeStrokes.{createFakeBis}
 use Rattle.zones.specs.NamedRuns.{failedIf}
 use Rattle.zones.specs.FakeRows.{FakeColumns, putFakes}
 
--- create_fake_bis of the kept stroke at a place
+-- create_fake_bis of the kept stroke at a place, power to the stand's places
 unfoldable pub fakesOf : Stand → Stores → ℕ → List FakeStroke
 unfolding createFakeBis fractalsOf nth stateOf
-fakesOf s m place = createFakeBis (fractalsOf (nth ((stateOf s m) .strokes) place))
+fakesOf s m place = createFakeBis (s .«power_places») (fractalsOf (nth ((stateOf s m) .strokes) place))
 
 -- questions 4 and 13
 unfoldable pub strokeFailed : Stand → Stores → ℕ → ℕ

@@ -18,13 +18,13 @@ pub fn fake_count(n: usize) -> usize
     n / 2 * 2 - 1
 }
 
-// The fake stroke from a fractal of this mark to the next; of each, the middle bar.
-pub fn fake_stroke(mark: Mark, first: Candle, second: Candle) -> FakeStroke
-    ensures { λ r. ⌜ r ≡ fakeOfTwo mark first second ⌝ }
+// The fake stroke from a fractal of this mark to the next; of each, the middle bar. Its power has `places` places.
+pub fn fake_stroke(places: usize, mark: Mark, first: Candle, second: Candle) -> FakeStroke
+    ensures { λ r. ⌜ r ≡ fakeOfTwo places mark first second ⌝ }
 {
     match mark {
         Mark::D => {
-            let rise = arith::round_to_2_digit(second.high - first.low);
+            let rise = arith::round_to_nth_digit(second.high - first.low, places);
             let up = Direction::Up;
             FakeStroke {
                 direction: up,
@@ -36,7 +36,7 @@ pub fn fake_stroke(mark: Mark, first: Candle, second: Candle) -> FakeStroke
             }
         }
         Mark::G => {
-            let fall = arith::round_to_2_digit(first.high - second.low);
+            let fall = arith::round_to_nth_digit(first.high - second.low, places);
             let down = Direction::Down;
             FakeStroke {
                 direction: down,

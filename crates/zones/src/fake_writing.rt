@@ -37,16 +37,16 @@ pub fn direction_code(d: Direction) -> u8
     }
 }
 
-// The fake stroke from the fractal in row p to the next.
-fn fake_at(fs: &[[i64; 6]], fp: &[[f64; 18]], p: usize) -> FakeStroke
+// The fake stroke from the fractal in row p to the next, its power to `places` places.
+fn fake_at(places: usize, fs: &[[i64; 6]], fp: &[[f64; 18]], p: usize) -> FakeStroke
     requires { ⌜ RoomFractals (fractalsHeld fs fp) (p + 2) ⌝ }
-    ensures { λ r. ⌜ r ≡ fakeAt (fractalsBefore fs fp) p ⌝ }
+    ensures { λ r. ⌜ r ≡ fakeAt places (fractalsBefore fs fp) p ⌝ }
 {
     let q = p + 1;
     let mark = mark_at(fp, p);
     let a = middle_at(fs, fp, p);
     let b = middle_at(fs, fp, q);
-    fake_stroke(mark, a, b)
+    fake_stroke(places, mark, a, b)
 }
 
 // The rows of a fake stroke.
@@ -65,6 +65,7 @@ fn write_fake(k: FakeStroke, ot: &mut [[i64; 2]], op: &mut [[f64; 3]], od: &mut 
 
 // The n fake strokes from row p on.
 fn write_fakes(
+    places: usize,
     fs: &[[i64; 6]],
     fp: &[[f64; 18]],
     p: usize,
@@ -74,11 +75,11 @@ fn write_fakes(
     od: &mut [u8],
 )
     requires { ⌜ RoomFractals (fractalsHeld fs fp) (p + n + 1) ⌝ ∗ ⌜ RoomFakes (fakesHeld ot op od) n ⌝ }
-    ensures { λ _. ⌜ fakesAfter ot op od ≡ putFakes (fakesBefore ot op od) (itemsFrom (fakeAt (fractalsBefore fs fp)) p n) ⌝ }
+    ensures { λ _. ⌜ fakesAfter ot op od ≡ putFakes (fakesBefore ot op od) (itemsFrom (fakeAt places (fractalsBefore fs fp)) p n) ⌝ }
 {
     let mut j: usize = 0;
     while j < n {
-        let k = fake_at(fs, fp, p + j);
+        let k = fake_at(places, fs, fp, p + j);
         write_fake(k, ot, op, od, j);
         j += 1;
     }
@@ -102,7 +103,7 @@ fn put_fakes(
     let place = strokes::total_bars(counts, i);
     let m = fractals[i] as usize;
     let n = fake_count(m);
-    write_fakes(fs, fp, place, n, ot, op, od);
+    write_fakes(stand.power_places, fs, fp, place, n, ot, op, od);
     n
 }
 

@@ -183,7 +183,7 @@ fn say_fakes(line: &[u8], first: FractalAt, k: usize) -> bool {
         if 0 < i {
             say(b" | ");
         }
-        say_fake(fake_stroke(mark, a, b));
+        say_fake(fake_stroke(2, mark, a, b));
         last = next;
         i += 1;
     }

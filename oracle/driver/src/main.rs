@@ -1,5 +1,6 @@
 //! Answers lines from standard input with the ported Rust: the calls of the replay format, and single
 //! functions. oracle/README.md says what each line means.
+mod places;
 mod reports;
 mod single;
 mod stand;
@@ -24,7 +25,7 @@ fn clear_environment() {
 fn answer(driver: &mut stand::Driver, line: &str) -> Option<String> {
     let fields: Vec<&str> = line.split(' ').collect();
     match fields[0] {
-        "n" => driver.fresh(&fields[1..]),
+        name @ ("n" | "N") => driver.fresh(name, &fields[1..]),
         "b" => driver.feed(&fields[1..]),
         "d" if fields.len() == 1 => Some(driver.show()),
         "r" if fields.len() == 1 => Some(driver.report()),

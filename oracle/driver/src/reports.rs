@@ -1,13 +1,16 @@
 //! The reports of the call `r`, block by block in the order of the replay format.
+use crate::places::Places;
 use crate::single::{fake, gap_answers, up_and_down, zone};
 use crate::stand::measure;
 use crate::text::{self, bits, flag};
 use czsc_core::analyze::{CZSC, utils::get_zs_seq};
 use czsc_core::objects::{bi::BI, fx::FX};
 
-pub fn all(c: &CZSC) -> Vec<String> {
+pub fn all(c: &CZSC, places: Places) -> Vec<String> {
     let mut lines = Vec::new();
-    c.bi_list.iter().for_each(|bi| measures(bi, &mut lines));
+    for bi in &c.bi_list {
+        measures(bi, places, &mut lines);
+    }
     let finished = c.get_finished_bis();
     lines.extend(
         c.get_fx_list()
@@ -28,13 +31,14 @@ pub fn all(c: &CZSC) -> Vec<String> {
             .map(|x| format!("ubifx {}", text::fractal(x))),
     );
     lines.push(unfinished_summary(c, &unfinished));
-    lines.extend(gap_answers(&c.bars_raw).iter().map(|g| format!("gap {g}")));
+    let gaps = gap_answers(&c.bars_raw, places);
+    lines.extend(gaps.iter().map(|g| format!("gap {g}")));
     lines.push("end".to_string());
     lines
 }
 
-fn measures(bi: &BI, lines: &mut Vec<String>) {
-    lines.push(format!("measure {}", measure(bi)));
+fn measures(bi: &BI, places: Places, lines: &mut Vec<String>) {
+    lines.push(format!("measure {}", measure(bi, places)));
     let times = bi
         .get_raw_bars()
         .into_iter()
@@ -43,7 +47,7 @@ fn measures(bi: &BI, lines: &mut Vec<String>) {
     lines.extend(
         bi.create_fake_bis()
             .iter()
-            .map(|b| format!("fake {}", fake(b))),
+            .map(|b| format!("fake {}", fake(b, places))),
     );
 }
 

@@ -1,4 +1,5 @@
 //! Single functions of the Rust, asked by lines of bits.
+use crate::places::{self, Places};
 use crate::text::{self, Fields, bits, flag, guarded, joined};
 use czsc_core::analyze::utils::{
     GapInfo, check_fx, check_gap_info, get_zs_seq, is_bis_down, is_bis_up, remove_include,
@@ -19,7 +20,7 @@ pub fn answer(name: &str, fields: &[&str]) -> Option<String> {
     let mut f = Fields::new(fields);
     let value = match name {
         "round" => bits(f.float()?.round()),
-        "places" => places(&mut f)?,
+        "places" => to_places(&mut f)?,
         "round2" => bits(f.float()?.round_to_2_digit()),
         "round3" => bits(f.float()?.round_to_3_digit()),
         "round4" => bits(f.float()?.round_to_4_digit()),
@@ -42,7 +43,7 @@ pub fn answer(name: &str, fields: &[&str]) -> Option<String> {
     (f.left() == 0).then_some(value)
 }
 
-fn places(f: &mut Fields) -> Option<String> {
+fn to_places(f: &mut Fields) -> Option<String> {
     let digits: usize = f.int()?;
     let x = f.float()?;
     (digits <= 6).then(|| bits(x.round_to_nth_digit(digits)))
@@ -130,12 +131,12 @@ fn gaps(f: &mut Fields) -> Option<String> {
     while f.left() > 0 {
         bars.push(f.bar()?);
     }
-    Some(joined(gap_answers(&bars)))
+    Some(joined(gap_answers(&bars, places::RUST)))
 }
 
 /// One answer for each neighbouring pair. The Rust lists only the gaps, in order: asked of a pair alone it
 /// says whether that pair is one, and its place in the whole list says whether it is covered.
-pub fn gap_answers(bars: &[RawBar]) -> Vec<String> {
+pub fn gap_answers(bars: &[RawBar], places: Places) -> Vec<String> {
     let all = check_gap_info(bars);
     let mut rest = all.iter();
     let answers = bars
@@ -154,7 +155,7 @@ pub fn gap_answers(bars: &[RawBar]) -> Vec<String> {
                     "{kind} {} {} {} {covered}",
                     bits(gap.low),
                     bits(gap.high),
-                    ratio(gap)
+                    ratio(gap, places)
                 )
             }
         });
@@ -164,11 +165,12 @@ pub fn gap_answers(bars: &[RawBar]) -> Vec<String> {
 }
 
 /// The Rust divides by the lower edge of any gap. Request three gives no ratio where that edge is zero or less.
-fn ratio(gap: &GapInfo) -> String {
+fn ratio(gap: &GapInfo, places: Places) -> String {
+    let ratio = places.gap_ratio(gap);
     if gap.low <= 0.0 {
         "none".to_string()
     } else {
-        bits(gap.delta)
+        bits(ratio)
     }
 }
 
@@ -210,14 +212,14 @@ fn zones(f: &mut Fields) -> Option<String> {
 }
 
 /// up|down SDT EDT HIGH LOW POWER
-pub fn fake(b: &FakeBI) -> String {
+pub fn fake(b: &FakeBI, places: Places) -> String {
     let times = format!("{} {}", b.sdt.timestamp(), b.edt.timestamp());
     format!(
         "{} {times} {} {} {}",
         text::direction(b.direction),
         bits(b.high),
         bits(b.low),
-        bits(b.power)
+        bits(places.fake_power(b))
     )
 }
 
@@ -232,7 +234,8 @@ fn fakes(f: &mut Fields) -> Option<String> {
         });
     }
     Some(guarded(|| {
-        joined(create_fake_bis(&list).iter().map(fake).collect())
+        let made = create_fake_bis(&list);
+        joined(made.iter().map(|b| fake(b, places::RUST)).collect())
     }))
 }
 

@@ -1,4 +1,5 @@
-//! The analyzer under the calls `n`, `b` and `d`.
+//! The analyzer under the calls `n`, `N`, `b` and `d`.
+use crate::places::{self, Places};
 use crate::reports;
 use crate::text::{self, Fields, bits, guarded};
 use chrono::{TimeZone, Utc};
@@ -7,10 +8,11 @@ use czsc_core::events;
 use czsc_core::objects::{bar::RawBar, bi::BI, freq::Freq};
 use std::time::{Duration, Instant};
 
-/// What an accepted `n` sets up. Before the first bar the Rust has no analyzer yet: `analyzer` then is an
+/// What an accepted `n` or `N` sets up. Before the first bar the Rust has no analyzer yet: `analyzer` then is an
 /// empty one that only reports read, and the first bar goes to `CZSC::new`.
 struct Analysis {
     analyzer: CZSC,
+    places: Places,
     last_time: Option<i64>,
     panicked: bool,
 }
@@ -34,16 +36,31 @@ fn empty(min: usize, max: usize) -> CZSC {
     }
 }
 
-/// The first of questions 1 to 3 that the numbers of `n` fail.
+/// The first of questions 1, 2, 17 and 3 that the numbers of `N` fail.
 fn ask_settings(numbers: &[u64]) -> Option<u8> {
     if numbers[0] > 64 {
         Some(1)
     } else if numbers[1] > 64 {
         Some(2)
-    } else if !numbers[2..].iter().all(|n| (16..=65536).contains(n)) {
+    } else if numbers[2..4].iter().any(|&n| n > places::MOST) {
+        Some(17)
+    } else if !numbers[4..].iter().all(|n| (16..=65536).contains(n)) {
         Some(3)
     } else {
         None
+    }
+}
+
+/// The seven numbers of `N`: minimum, most, places for power and for ratios, three store lengths. `n` has five and means the Rust's places.
+fn fresh_numbers(name: &str, fields: &[&str]) -> Option<Vec<u64>> {
+    let mut f = Fields::new(fields);
+    let mut numbers: Vec<u64> = (0..f.left()).map(|_| f.int()).collect::<Option<_>>()?;
+    if name == "n" && numbers.len() == 5 {
+        let own = [places::RUST.power as u64, places::RUST.ratio as u64];
+        numbers.splice(2..2, own);
+        Some(numbers)
+    } else {
+        (name == "N" && numbers.len() == 7).then_some(numbers)
     }
 }
 
@@ -121,19 +138,19 @@ impl Driver {
         }
     }
 
-    /// `n`
-    pub fn fresh(&mut self, fields: &[&str]) -> Option<String> {
-        let mut f = Fields::new(fields);
-        let numbers: Vec<u64> = (0..f.left()).map(|_| f.int()).collect::<Option<_>>()?;
-        if numbers.len() != 5 {
-            return None;
-        }
+    /// `n` and `N`
+    pub fn fresh(&mut self, name: &str, fields: &[&str]) -> Option<String> {
+        let numbers = fresh_numbers(name, fields)?;
         if let Some(k) = ask_settings(&numbers) {
             return Some(format!("no {k}"));
         }
         let analyzer = empty(numbers[0] as usize, numbers[1] as usize);
         self.analysis = Some(Analysis {
             analyzer,
+            places: Places {
+                power: numbers[2] as usize,
+                ratio: numbers[3] as usize,
+            },
             last_time: None,
             panicked: false,
         });
@@ -183,7 +200,7 @@ impl Driver {
     pub fn report(&mut self) -> String {
         let ask_4 = self.ask_4;
         self.with(ask_4, |analysis| {
-            guarded(|| reports::all(&analysis.analyzer).join("\n"))
+            guarded(|| reports::all(&analysis.analyzer, analysis.places).join("\n"))
         })
     }
 
@@ -250,15 +267,15 @@ fn stroke(bi: &BI, kept: impl Fn(&RawBar) -> bool, lines: &mut Vec<String>) {
 }
 
 /// HIGH LOW POWER VOLUME SNR POWERSNR CHANGE SLOPE ACCELERATION LENGTH NINNER
-pub fn measure(bi: &BI) -> String {
+pub fn measure(bi: &BI, places: Places) -> String {
     let floats = [
         bi.get_high(),
         bi.get_low(),
-        bi.get_power_price(),
+        places.power_price(bi),
         bi.get_power_volume(),
         bi.get_snr(),
-        bi.get_power_snr(),
-        bi.get_change(),
+        places.power_snr(bi),
+        places.change(bi),
         bi.get_slope(),
         bi.get_acceleration(),
     ];

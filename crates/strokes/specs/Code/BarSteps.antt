@@ -35,6 +35,8 @@ withRaw s n =
       strokes = s .strokes;
       bars = s .bars;
       fractals = s .fractals;
+      «power_places» = s .«power_places»;
+      «ratio_places» = s .«ratio_places»;
     }
 
 -- a state of these raw bars alone: no more of it has a say in the raw bars once another has come
@@ -65,6 +67,8 @@ withUnfinished s n =
       strokes = s .strokes;
       bars = s .bars;
       fractals = s .fractals;
+      «power_places» = s .«power_places»;
+      «ratio_places» = s .«ratio_places»;
     }
 
 -- after a step of the stand s, the stand r keeps the unfinished bars l in the store m
@@ -112,6 +116,8 @@ withoutLast s =
       strokes = s .strokes - 1;
       bars = s .bars;
       fractals = s .fractals;
+      «power_places» = s .«power_places»;
+      «ratio_places» = s .«ratio_places»;
     }
 
 -- the stroke whose n bars stand in the stroke store from a place on

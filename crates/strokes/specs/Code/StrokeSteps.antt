@@ -162,6 +162,8 @@ shedStand s =
       strokes = s .strokes - 1;
       bars = shifted (s .bars);
       fractals = shifted (s .fractals);
+      «power_places» = s .«power_places»;
+      «ratio_places» = s .«ratio_places»;
     }
 
 -- of a stand and its stroke store: where over, the oldest stroke goes
@@ -185,6 +187,8 @@ withStroke s n m =
       strokes = s .strokes + 1;
       bars = set (s .bars) (s .strokes) n;
       fractals = set (s .fractals) (s .strokes) m;
+      «power_places» = s .«power_places»;
+      «ratio_places» = s .«ratio_places»;
     }
 
 -- the stroke's fractals are those of its bars and one more, if there is one

@@ -10,11 +10,11 @@ use Rattle.machine.specs.declared.Direction.the-variants.{Up, Down}
 use Rattle.zones.specs.declared.FakeStroke.{FakeStroke}
 
 -- from a fractal of the mark to the next, with the middle bar of each: up has the second's high and the first's low, down the first's high and the
--- second's low; power is high minus low, rounded to 2 places
-unfoldable pub fakeOfTwo : Mark → Candle → Candle → FakeStroke
+-- second's low; power is high minus low, rounded to d places
+unfoldable pub fakeOfTwo : ℕ → Mark → Candle → Candle → FakeStroke
 unfolding roundTo sub
-fakeOfTwo D a b = record { direction = Up; sdt = a .time; edt = b .time; high = b .high; low = a .low; power = roundTo 2 (sub binary64 (b .high) (a .low)) }
-fakeOfTwo G a b = record { direction = Down; sdt = a .time; edt = b .time; high = a .high; low = b .low; power = roundTo 2 (sub binary64 (a .high) (b .low)) }
+fakeOfTwo d D a b = record { direction = Up; sdt = a .time; edt = b .time; high = b .high; low = a .low; power = roundTo d (sub binary64 (b .high) (a .low)) }
+fakeOfTwo d G a b = record { direction = Down; sdt = a .time; edt = b .time; high = a .high; low = b .low; power = roundTo d (sub binary64 (a .high) (b .low)) }
 
 -- an odd list loses its last; then each neighbouring pair. Below 2 fractals the difference is 0.
 unfoldable pub fakeCount : ℕ → ℕ

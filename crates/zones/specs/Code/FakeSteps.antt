@@ -10,15 +10,15 @@ use Rattle.zones.specs.Code.StrokesRead.{strokePlace, fractalNumber, ite
 use Rattle.named.specs.Code.NamedRows.{markAt, middleAt}
 use Rattle.zones.specs.FakeRows.{FakeColumns}
 
--- from the fractal in row p to the next
-unfoldable pub fakeAt : FractalStore → ℕ → FakeStroke
+-- from the fractal in row p to the next, its power to d places
+unfoldable pub fakeAt : ℕ → FractalStore → ℕ → FakeStroke
 unfolding fakeOfTwo markAt middleAt
-fakeAt f p = fakeOfTwo (markAt f p) (middleAt f p) (middleAt f (p + 1))
+fakeAt d f p = fakeOfTwo d (markAt f p) (middleAt f p) (middleAt f (p + 1))
 
 -- those of the stroke at place i
 unfoldable pub readFakes : Stand → FractalStore → ℕ → List FakeStroke
 unfolding itemsFrom fakeAt strokePlace fakeCount fractalNumber
-readFakes s f i = itemsFrom (fakeAt f) (strokePlace s i) (fakeCount (fractalNumber s i))
+readFakes s f i = itemsFrom (fakeAt (s .«power_places») f) (strokePlace s i) (fakeCount (fractalNumber s i))
 
 -- every column has n places and more
 pub record RoomFakes (d : FakeColumns) (n : ℕ) : Type 0 where

@@ -38,7 +38,7 @@ up-gap-requires c κs = search needs
 
 returns : tie.Need-returns
 unfolding rowHigh rowLow
-returns c = let s = c .before .before .before .before .before .args in let ps = s .prices .now in gap-up (getD ps (s .i) []) (getD ps (s .j) []) (drop (s .j) (take (s .n) ps)) _ _ (c .before .before .if1 .taken) (c .before .covered-up .ensures) (c .up-gap .ensures)
+returns c = let s = c .before .before .before .before .before .args in let ps = s .prices .now in gap-up (s .places) (getD ps (s .i) []) (getD ps (s .j) []) (drop (s .j) (take (s .n) ps)) _ _ (c .before .before .if1 .taken) (c .before .covered-up .ensures) (c .up-gap .ensures)
 
 covered-down-requires : tie.Need-covered-down-requires
 covered-down-requires c κs = search needs
@@ -48,11 +48,11 @@ down-gap-requires c κs = search needs
 
 returns-2 : tie.Need-returns-2
 unfolding rowHigh rowLow
-returns-2 c = let s = c .before .before .before .before .before .before .args in let ps = s .prices .now in gap-down (getD ps (s .i) []) (getD ps (s .j) []) (drop (s .j) (take (s .n) ps)) _ _ (c .before .before .before .if1 .left) (c .before .before .if2 .taken) (c .before .covered-down .ensures) (c .down-gap .ensures)
+returns-2 c = let s = c .before .before .before .before .before .before .args in let ps = s .prices .now in gap-down (s .places) (getD ps (s .i) []) (getD ps (s .j) []) (drop (s .j) (take (s .n) ps)) _ _ (c .before .before .before .if1 .left) (c .before .before .if2 .taken) (c .before .covered-down .ensures) (c .down-gap .ensures)
 
 returns-3 : tie.Need-returns-3
 unfolding rowHigh rowLow
-returns-3 c = let s = c .before .before .before .before .args in let ps = s .prices .now in gap-none (getD ps (s .i) []) (getD ps (s .j) []) (drop (s .j) (take (s .n) ps)) (c .before .if1 .left) (c .if2 .left)
+returns-3 c = let s = c .before .before .before .before .args in let ps = s .prices .now in gap-none (s .places) (getD ps (s .i) []) (getD ps (s .j) []) (drop (s .j) (take (s .n) ps)) (c .before .if1 .left) (c .if2 .left)
 
 pub gap-of-pair-spec : {M : Type 1} → statement M
 gap-of-pair-spec =

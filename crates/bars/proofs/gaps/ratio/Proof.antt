@@ -4,12 +4,12 @@ use borrow.Author.Needs.{needs}
 use Rattle.bars.proofs.gaps.ratio.Statement.{statement}
 use Rattle.bars.proofs.gaps.ratio.Tie as tie
 
-round-to-4-digit-requires : tie.Need-round-to-4-digit-requires
-round-to-4-digit-requires c κs = search needs
+round-to-nth-digit-requires : tie.Need-round-to-nth-digit-requires
+round-to-nth-digit-requires c κs = search needs
 
 returns : tie.Need-returns
 unfolding ratioOf ofBits
-returns c = c .round-to-4-digit .ensures
+returns c = c .round-to-nth-digit .ensures .0
 
 pub ratio-spec : {M : Type 1} → statement M
-ratio-spec = tie.close (tie.spec round-to-4-digit-requires returns)
+ratio-spec = tie.close (tie.spec round-to-nth-digit-requires returns)

@@ -11,15 +11,15 @@ use Rattle.bars.proofs.gaps.write_gaps.Statement.{statement}
 use Rattle.bars.proofs.gaps.write_gaps.Tie as tie
 
 abbrev Inv-loop : tie.InvT-loop
-Inv-loop prices n m kinds₀ values₀ covered₀ i₀ kinds values covered i =
+Inv-loop places prices n m kinds₀ values₀ covered₀ i₀ kinds values covered i =
     (i ≤ m)
     × ((length kinds ≡ length kinds₀) × (length values ≡ length values₀) × (length covered ≡ length covered₀))
-    × (kinds ≡ copied kinds₀ 0 (map gapNumber (gapsOf (take n prices))) 0 i)
-    × (values ≡ copied values₀ 0 (map gapValues (gapsOf (take n prices))) 0 i)
-    × (covered ≡ copied covered₀ 0 (map gapCovered (gapsOf (take n prices))) 0 i)
+    × (kinds ≡ copied kinds₀ 0 (map gapNumber (gapsOf places (take n prices))) 0 i)
+    × (values ≡ copied values₀ 0 (map gapValues (gapsOf places (take n prices))) 0 i)
+    × (covered ≡ copied covered₀ 0 (map gapCovered (gapsOf places (take n prices))) 0 i)
 
 abbrev μ-loop : tie.MeasureT-loop
-μ-loop prices n m kinds₀ values₀ covered₀ i₀ kinds values covered i = m - i
+μ-loop places prices n m kinds₀ values₀ covered₀ i₀ kinds values covered i = m - i
 
 loop-holds : tie.Need-loop-holds Inv-loop μ-loop
 loop-holds c = (search needs, (refl, refl, refl), copied-none _ _ 0 0, copied-none _ _ 0 0, copied-none _ _ 0 0)
@@ -42,8 +42,8 @@ slice-write-kinds c = search needs
 gap-values-requires : tie.Need-gap-values-requires Inv-loop μ-loop
 gap-values-requires c κs = search needs
 
-mul-t10 : tie.Need-mul-t10 Inv-loop μ-loop
-mul-t10 c = search needs
+mul-t11 : tie.Need-mul-t11 Inv-loop μ-loop
+mul-t11 c = search needs
 
 slice-set-from-values : tie.Need-slice-set-from-values Inv-loop μ-loop
 slice-set-from-values c = search needs
@@ -61,7 +61,7 @@ loop-less : tie.Need-loop-less Inv-loop μ-loop
 loop-less c = search needs
 
 loop-again : tie.Need-loop-again Inv-loop μ-loop
-loop-again c = let s = c .before .before .before .before .before .before .before .before .args in let l = c .before .before .before .before .before .loop in (search needs, search needs, column-turn gapNumber (s .prices .now) (s .n) (l .i) _ _ _ _ (search needs) (search needs) (search needs) (c .before .before .before .gap-of-pair .ensures) (c .before .before .gap-number .ensures) (l .inv .2), column-turn gapValues (s .prices .now) (s .n) (l .i) _ _ _ _ (search needs) (search needs) (search needs) (c .before .before .before .gap-of-pair .ensures) (c .before .gap-values .ensures) (l .inv .3), column-turn gapCovered (s .prices .now) (s .n) (l .i) _ _ _ _ (search needs) (search needs) (search needs) (c .before .before .before .gap-of-pair .ensures) (c .gap-covered .ensures) (l .inv .4))
+loop-again c = let s = c .before .before .before .before .before .before .before .before .args in let l = c .before .before .before .before .before .loop in (search needs, search needs, column-turn gapNumber (s .places) (s .prices .now) (s .n) (l .i) _ _ _ _ (search needs) (search needs) (search needs) (c .before .before .before .gap-of-pair .ensures) (c .before .before .gap-number .ensures) (l .inv .2), column-turn gapValues (s .places) (s .prices .now) (s .n) (l .i) _ _ _ _ (search needs) (search needs) (search needs) (c .before .before .before .gap-of-pair .ensures) (c .before .gap-values .ensures) (l .inv .3), column-turn gapCovered (s .places) (s .prices .now) (s .n) (l .i) _ _ _ _ (search needs) (search needs) (search needs) (c .before .before .before .gap-of-pair .ensures) (c .gap-covered .ensures) (l .inv .4))
 
 same-length : tie.Need-same-length Inv-loop μ-loop
 same-length c = search needs
@@ -89,7 +89,7 @@ write-gaps-spec =
     mul-kinds
     slice-write-kinds
     gap-values-requires
-    mul-t10
+    mul-t11
     slice-set-from-values
     gap-covered-requires
     slice-write-covered

@@ -95,7 +95,7 @@ returns c =
     let o = c .before .before in
     let s = start o in
     let x = s .args in
-    batch-refused (x .minimum) (x .most) (lent s) (rawBars (to-feed s)) (o .fresh .result) (o .fresh .ensures) (c .if1 .taken)
+    batch-refused (x .minimum) (x .most) (x .power) (x .ratio) (lent s) (rawBars (to-feed s)) (o .fresh .result) (o .fresh .ensures) (c .if1 .taken)
 
 -- ---- the bars are fed
 
@@ -111,7 +111,7 @@ can-at o =
     let s = start f in
     let x = s .args in
     let n = o .before .fewer in
-    call-can (x .minimum) (x .most) (lent s) (to-feed s) (f .fresh .result) (n .result) (o .fewer2 .result) (f .fresh .ensures) (answered o .if1 .left) (n .ensures) (o .fewer2 .ensures)
+    call-can (x .minimum) (x .most) (x .power) (x .ratio) (lent s) (to-feed s) (f .fresh .result) (n .result) (o .fewer2 .result) (f .fresh .ensures) (answered o .if1 .left) (n .ensures) (o .fewer2 .ensures)
 
 feed-from-requires : tie.Need-feed-from-requires
 feed-from-requires c κs = can-at (counted c)
@@ -182,7 +182,7 @@ returns-2 c =
     let f = fresh-of o in
     let s = start f in
     let x = s .args in
-    batch-answered (x .minimum) (x .most) (lent s) _ (rawBars (to-feed s)) _ (f .fresh .result) (f .fresh .ensures) (answered o .if1 .left) (fed c .feed-from .ensures)
+    batch-answered (x .minimum) (x .most) (x .power) (x .ratio) (lent s) _ (rawBars (to-feed s)) _ (f .fresh .result) (f .fresh .ensures) (answered o .if1 .left) (fed c .feed-from .ensures)
 
 pub feed-all-spec : {M : Type 1} → statement M
 feed-all-spec =

@@ -87,7 +87,7 @@ returns : tie.Need-returns
 returns c =
     let s = start (c .before) in
     let a = s .args in
-    refused-first (a .minimum) (a .most) (a .numbers .now) (a .counts .now) (a .sums .now) (lent s) (rawBars (rawHeld (a .bt) (a .bi) (a .bp))) _ (c .before .failed-first .ensures) (c .if1 .taken)
+    refused-first (a .minimum) (a .most) (a .power) (a .ratio) (a .numbers .now) (a .counts .now) (a .sums .now) (lent s) (rawBars (rawHeld (a .bt) (a .bi) (a .bp))) _ (c .before .failed-first .ensures) (c .if1 .taken)
 
 -- ---- the bars are fed
 
@@ -96,7 +96,7 @@ feed-packed-requires c κs =
     let e = passed c in
     let s = start (e .before) in
     let a = s .args in
-    places (a .minimum) (a .most) (a .numbers .now) (a .counts .now) (a .sums .now) (lent s) (sym (e .before .failed-first .ensures) ∙ e .if1 .left)
+    places (a .minimum) (a .most) (a .power) (a .ratio) (a .numbers .now) (a .counts .now) (a .sums .now) (lent s) (sym (e .before .failed-first .ensures) ∙ e .if1 .left)
 
 same-length-19 : tie.Need-same-length-19
 same-length-19 c = c .before .before .before .before .before .before .before .before .before .before .before .before .before .before .before .before .before .before .before .numbers .given
@@ -157,7 +157,7 @@ returns-2 c =
     let e = passed (fed c .before) in
     let s = start (e .before) in
     let a = s .args in
-    all-then (a .minimum) (a .most) (a .numbers .now) (a .counts .now) (a .sums .now) (lent s) (sym (e .before .failed-first .ensures) ∙ e .if1 .left) (fed c .feed-packed .ensures)
+    all-then (a .minimum) (a .most) (a .power) (a .ratio) (a .numbers .now) (a .counts .now) (a .sums .now) (lent s) (sym (e .before .failed-first .ensures) ∙ e .if1 .left) (fed c .feed-packed .ensures)
 
 pub czsc-feed-all-spec : {M : Type 1} → statement M
 czsc-feed-all-spec =

@@ -61,11 +61,11 @@ slice-aggregate-is-word-2 c = search needs
 is-word-requires-2 : tie.Need-is-word-requires-2
 is-word-requires-2 c κs = search needs
 
-add-feed-call : tie.Need-add-feed-call
-add-feed-call c = search needs
+add-places-call : tie.Need-add-places-call
+add-places-call c = search needs
 
-feed-call-requires : tie.Need-feed-call-requires
-feed-call-requires c κs = search needs
+places-call-requires : tie.Need-places-call-requires
+places-call-requires c κs = search needs
 
 returns-6 : tie.Need-returns-6
 returns-6 c = search needs
@@ -76,8 +76,11 @@ slice-aggregate-is-word-3 c = search needs
 is-word-requires-3 : tie.Need-is-word-requires-3
 is-word-requires-3 c κs = search needs
 
-plain-call-requires-5 : tie.Need-plain-call-requires-5
-plain-call-requires-5 c κs = search needs
+add-feed-call : tie.Need-add-feed-call
+add-feed-call c = search needs
+
+feed-call-requires : tie.Need-feed-call-requires
+feed-call-requires c κs = search needs
 
 returns-7 : tie.Need-returns-7
 returns-7 c = search needs
@@ -88,17 +91,29 @@ slice-aggregate-is-word-4 c = search needs
 is-word-requires-4 : tie.Need-is-word-requires-4
 is-word-requires-4 c κs = search needs
 
-plain-call-requires-6 : tie.Need-plain-call-requires-6
-plain-call-requires-6 c κs = search needs
+plain-call-requires-5 : tie.Need-plain-call-requires-5
+plain-call-requires-5 c κs = search needs
 
 returns-8 : tie.Need-returns-8
 returns-8 c = search needs
 
-plain-call-requires-7 : tie.Need-plain-call-requires-7
-plain-call-requires-7 c κs = search needs
+slice-aggregate-is-word-5 : tie.Need-slice-aggregate-is-word-5
+slice-aggregate-is-word-5 c = search needs
+
+is-word-requires-5 : tie.Need-is-word-requires-5
+is-word-requires-5 c κs = search needs
+
+plain-call-requires-6 : tie.Need-plain-call-requires-6
+plain-call-requires-6 c κs = search needs
 
 returns-9 : tie.Need-returns-9
 returns-9 c = search needs
+
+plain-call-requires-7 : tie.Need-plain-call-requires-7
+plain-call-requires-7 c κs = search needs
+
+returns-10 : tie.Need-returns-10
+returns-10 c = search needs
 
 pub call-in-spec : {M : Type 1} → statement M
 call-in-spec =
@@ -123,16 +138,21 @@ call-in-spec =
     returns-5
     slice-aggregate-is-word-2
     is-word-requires-2
-    add-feed-call
-    feed-call-requires
+    add-places-call
+    places-call-requires
     returns-6
     slice-aggregate-is-word-3
     is-word-requires-3
-    plain-call-requires-5
+    add-feed-call
+    feed-call-requires
     returns-7
     slice-aggregate-is-word-4
     is-word-requires-4
-    plain-call-requires-6
+    plain-call-requires-5
     returns-8
+    slice-aggregate-is-word-5
+    is-word-requires-5
+    plain-call-requires-6
+    returns-9
     plain-call-requires-7
-    returns-9)
+    returns-10)

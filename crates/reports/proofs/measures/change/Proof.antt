@@ -6,14 +6,14 @@ use Rattle.reports.proofs.measures.change.Tie as tie
 
 returns : tie.Need-returns
 unfolding ofBits
-returns c = λ b p q. change-zero b (c .before .args .s) p (c .if1 .taken)
+returns c = λ b p q. change-zero _ b (c .before .args .s) p (c .if1 .taken)
 
-round-to-4-digit-requires : tie.Need-round-to-4-digit-requires
-round-to-4-digit-requires c κs = search needs
+round-to-nth-digit-requires : tie.Need-round-to-nth-digit-requires
+round-to-nth-digit-requires c κs = search needs
 
 returns-2 : tie.Need-returns-2
 unfolding ofBits
-returns-2 c = λ b p q. change-else b (c .before .before .args .s) (c .before .before .args .e) _ p q (c .before .if1 .left) (c .round-to-4-digit .ensures)
+returns-2 c = λ b p q. change-else _ b (c .before .before .args .s) (c .before .before .args .e) _ p q (c .before .if1 .left) (c .round-to-nth-digit .ensures .0)
 
 pub change-spec : {M : Type 1} → statement M
-change-spec = tie.close (tie.spec returns round-to-4-digit-requires returns-2)
+change-spec = tie.close (tie.spec returns round-to-nth-digit-requires returns-2)

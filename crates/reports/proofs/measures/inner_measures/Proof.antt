@@ -29,8 +29,8 @@ slope-rows-requires c κs = search needs
 snr-requires : tie.Need-snr-requires
 snr-requires c κs = search needs
 
-round-to-4-digit-requires : tie.Need-round-to-4-digit-requires
-round-to-4-digit-requires c κs = search needs
+round-to-nth-digit-requires : tie.Need-round-to-nth-digit-requires
+round-to-nth-digit-requires c κs = search needs
 
 slope-requires : tie.Need-slope-requires
 slope-requires c κs = search needs
@@ -49,7 +49,7 @@ returns c = λ rs p q.
     let s = c .before .before .before .before .before .before .before .before .before .rows .ensures in
     let x = snr-read rt rp l rs _ _ (s .2 ∙ ap (λ (z : InnerSums). foldl (snrAt rt rp) (z .snr) l) n) (c .before .before .before .snr .ensures) q in (
       x,
-      c .before .before .round-to-4-digit .ensures ∙ ap (λ (z : Float). roundTo 4 z) x,
+      c .before .before .round-to-nth-digit .ensures .0 ∙ ap (λ (z : Float). roundTo (a .places) z) x,
       slope-read rt rp l rs _ _ _ (s .0 ∙ ap (λ (z : InnerSums). foldl (meanAt rt rp) (z .mean) l) n) (s .3) (c .before .before .before .before .slope-rows .ensures ∙ ap (λ (z : SlopeSums). foldl (slopeAt rt rp) z l) (c .before .before .before .before .before .new2 .ensures)) (c .before .slope .ensures) p,
       acceleration-read rt rp l rs _ _ (s .1 ∙ ap (λ (z : InnerSums). foldl (fitAt rt rp) (z .fit) l) n) (c .acceleration .ensures) p,
     )
@@ -63,7 +63,7 @@ inner-measures-spec =
     new-requires-2
     slope-rows-requires
     snr-requires
-    round-to-4-digit-requires
+    round-to-nth-digit-requires
     slope-requires
     acceleration-requires
     returns)

@@ -32,10 +32,11 @@ inner-measures-requires c κs = search needs
 returns : tie.Need-returns
 unfolding measuresOf powerVolume
 returns c = λ raw b s e n k.
+    let a = c .before .before .before .before .before .before .before .before .before .args in
     let fs = c .before .before .before .before .before .before .before .fx .ensures (b .start) s in
     let fe = c .before .before .before .before .before .before .fx2 .ensures (b .end) e in
     let x = c .inner-measures .ensures (getRawBars raw b) (k .closes) (k .opens) in
-    put-together (getRawBars raw b) b (c .before .before .before .before .before .high .ensures b s e) (c .before .before .before .before .low .ensures b s e) (c .before .before .before .power-price .ensures b fs fe) (c .before .before .volume .ensures (inner b) (k .vols)) (x .0) (x .1) (c .before .change .ensures b fs fe) (x .2) (x .3) n
+    put-together (a .power) (a .ratio) (getRawBars raw b) b (c .before .before .before .before .before .high .ensures b s e) (c .before .before .before .before .low .ensures b s e) (c .before .before .before .power-price .ensures b fs fe) (c .before .before .volume .ensures (inner b) (k .vols)) (x .0) (x .1) (c .before .change .ensures b fs fe) (x .2) (x .3) n
 
 pub measures-of-spec : {M : Type 1} → statement M
 measures-of-spec =

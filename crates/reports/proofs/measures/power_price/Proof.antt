@@ -11,12 +11,12 @@ use Rattle.reports.proofs.measures.power_price.Tie as tie
 abs-requires : tie.Need-abs-requires
 abs-requires c κs = search needs
 
-round-to-2-digit-requires : tie.Need-round-to-2-digit-requires
-round-to-2-digit-requires c κs = search needs
+round-to-nth-digit-requires : tie.Need-round-to-nth-digit-requires
+round-to-nth-digit-requires c κs = search needs
 
 returns : tie.Need-returns
 unfolding powerPrice
-returns c = λ b p q. c .round-to-2-digit .ensures ∙ ap (λ (x : Float). roundTo 2 x) (c .before .abs .ensures ∙ ap absOf (ap (λ (x : Float). sub binary64 x (c .before .before .args .s)) q ∙ ap (λ (y : Float). sub binary64 (fxOf (b .end)) y) p))
+returns c = λ b p q. c .round-to-nth-digit .ensures .0 ∙ ap (λ (x : Float). roundTo (c .before .before .args .places) x) (c .before .abs .ensures ∙ ap absOf (ap (λ (x : Float). sub binary64 x (c .before .before .args .s)) q ∙ ap (λ (y : Float). sub binary64 (fxOf (b .end)) y) p))
 
 pub power-price-spec : {M : Type 1} → statement M
-power-price-spec = tie.close (tie.spec abs-requires round-to-2-digit-requires returns)
+power-price-spec = tie.close (tie.spec abs-requires round-to-nth-digit-requires returns)

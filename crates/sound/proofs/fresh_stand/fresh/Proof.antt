@@ -21,10 +21,10 @@ rooms-at : (c : tie.After-fresh-failed) → counted c .rooms-of .result ≡ room
 unfolding roomsOf storesOf
 rooms-at c = counted c .rooms-of .ensures
 
-failed-at : (c : tie.After-fresh-failed) → c .fresh-failed .result ≡ freshFailed (start c .args .minimum) (start c .args .most) (lent (start c))
+failed-at : (c : tie.After-fresh-failed) → c .fresh-failed .result ≡ freshFailed (start c .args .minimum) (start c .args .most) (start c .args .power) (start c .args .ratio) (lent (start c))
 failed-at c =
     let a = start c .args in
-    failed-is (a .minimum) (a .most) (lent (start c)) _ _ _ _ _ (rooms-at c) (c .before .before .before .columns-agree .ensures) (c .before .before .rooms-fit .ensures) (c .before .both .ensures) (c .fresh-failed .ensures)
+    failed-is (a .minimum) (a .most) (a .power) (a .ratio) (lent (start c)) _ _ _ _ _ (rooms-at c) (c .before .before .before .columns-agree .ensures) (c .before .before .rooms-fit .ensures) (c .before .both .ensures) (c .fresh-failed .ensures)
 
 -- ---- the needs
 
@@ -56,7 +56,7 @@ returns : tie.Need-returns
 returns c =
     let f = c .before .before .before .before in
     let a = start f .args in
-    fresh-yes (f .fresh-failed .result) (a .minimum) (a .most) (lent (start f)) _ _ _ _ (failed-at f) (c .before .before .before .if1 .taken) (rooms-at f) (c .before .before .or-default .ensures) (c .before .or-default2 .ensures) (c .empty-stand .ensures)
+    fresh-yes (f .fresh-failed .result) (a .minimum) (a .most) (a .power) (a .ratio) (lent (start f)) _ _ _ _ (failed-at f) (c .before .before .before .if1 .taken) (rooms-at f) (c .before .before .or-default .ensures) (c .before .or-default2 .ensures) (c .empty-stand .ensures)
 
 empty-stand-requires-2 : tie.Need-empty-stand-requires-2
 empty-stand-requires-2 c κs = search needs
@@ -66,7 +66,7 @@ unfolding noStand
 returns-2 c =
     let f = c .before .before in
     let a = start f .args in
-    fresh-no (f .fresh-failed .result) (a .minimum) (a .most) (lent (start f)) _ (failed-at f) (c .before .if1 .left) (c .empty-stand2 .ensures)
+    fresh-no (f .fresh-failed .result) (a .minimum) (a .most) (a .power) (a .ratio) (lent (start f)) _ (failed-at f) (c .before .if1 .left) (c .empty-stand2 .ensures)
 
 pub fresh-spec : {M : Type 1} → statement M
 fresh-spec =

@@ -33,15 +33,27 @@ is-setting-requires-2 c κs = search needs
 both-requires-3 : tie.Need-both-requires-3
 both-requires-3 c κs = search needs
 
+is-places-requires : tie.Need-is-places-requires
+is-places-requires c κs = search needs
+
+is-places-requires-2 : tie.Need-is-places-requires-2
+is-places-requires-2 c κs = search needs
+
 both-requires-4 : tie.Need-both-requires-4
 both-requires-4 c κs = search needs
 
 both-requires-5 : tie.Need-both-requires-5
 both-requires-5 c κs = search needs
 
+both-requires-6 : tie.Need-both-requires-6
+both-requires-6 c κs = search needs
+
+both-requires-7 : tie.Need-both-requires-7
+both-requires-7 c κs = search needs
+
 returns-2 : tie.Need-returns-2
 unfolding numbersPass countsSized barCounts settingsSound settingsOf roomsPass settingsPass roomsFit
-returns-2 c = rw (c .both5 .ensures, c .before .before .before .before .before .before .both2 .ensures, c .before .before .before .before .before .before .before .before .both .ensures, c .before .before .before .before .before .before .before .total-fits .ensures .0, c .before .both4 .ensures, c .before .before .before .before .before .rooms-fit .ensures, c .before .before .both3 .ensures, c .before .before .before .before .is-setting .ensures, c .before .before .before .is-setting2 .ensures, le-leb _ 64 (c .before .before .before .before .before .before .before .before .before .before .before .before .before .if1 .left))
+returns-2 c = rw (c .both7 .ensures, c .before .before .before .before .before .before .before .before .before .before .both2 .ensures, c .before .before .before .before .before .before .before .before .before .before .before .before .both .ensures, c .before .before .before .before .before .before .before .before .before .before .before .total-fits .ensures .0, c .before .both6 .ensures, c .before .before .before .before .before .before .before .before .before .rooms-fit .ensures, c .before .before .both5 .ensures, c .before .before .before .before .before .before .both3 .ensures, c .before .before .before .before .before .before .before .before .is-setting .ensures, c .before .before .before .before .before .before .before .is-setting2 .ensures, c .before .before .before .both4 .ensures, c .before .before .before .before .before .is-places .ensures, c .before .before .before .before .is-places2 .ensures, le-leb _ 64 (c .before .before .before .before .before .before .before .before .before .before .before .before .before .before .before .before .before .if1 .left))
 
 pub numbers-pass-spec : {M : Type 1} → statement M
 numbers-pass-spec =
@@ -55,6 +67,10 @@ numbers-pass-spec =
     is-setting-requires
     is-setting-requires-2
     both-requires-3
+    is-places-requires
+    is-places-requires-2
     both-requires-4
     both-requires-5
+    both-requires-6
+    both-requires-7
     returns-2)

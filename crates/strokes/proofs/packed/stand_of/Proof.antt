@@ -27,6 +27,12 @@ array-read-t23 c = search needs
 array-read-t26 : tie.Need-array-read-t26
 array-read-t26 c = search needs
 
+array-read-t29 : tie.Need-array-read-t29
+array-read-t29 c = search needs
+
+array-read-t32 : tie.Need-array-read-t32
+array-read-t32 c = search needs
+
 returns : tie.Need-returns
 unfolding standOf
 returns c = search needs
@@ -43,4 +49,6 @@ stand-of-spec =
     array-read-t11-2
     array-read-t23
     array-read-t26
+    array-read-t29
+    array-read-t32
     returns)

@@ -27,7 +27,7 @@ returns c =
     let f : length (s .fractals) ≡ 65 = search needs in
     let x = c .before .before .one-down .ensures in
     let y = c .before .one-down2 .ensures in (
-      λ i. record { minimum = s .minimum; most = s .most; rooms = s .rooms; raw = s .raw; unfinished = s .unfinished; strokes = s .strokes - 1; bars = x i; fractals = y i },
+      λ i. record { minimum = s .minimum; most = s .most; rooms = s .rooms; raw = s .raw; unfinished = s .unfinished; strokes = s .strokes - 1; bars = x i; fractals = y i; «power_places» = s .«power_places»; «ratio_places» = s .«ratio_places» },
       counts-down (s .bars) (c .before .before .one-down .result) (s .strokes) x (omega arith) (p .0) (p .1),
       counts-down (s .fractals) (c .before .one-down2 .result) (s .strokes) y (omega arith) (p .0) (p .1),
     )

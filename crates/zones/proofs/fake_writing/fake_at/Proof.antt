@@ -19,7 +19,7 @@ fake-stroke-requires : tie.Need-fake-stroke-requires
 fake-stroke-requires c κs = search needs
 
 returns : tie.Need-returns
-returns c = fake-read _ (c .before .before .before .before .args .p) (c .before .before .before .mark-at .result) (c .before .before .middle-at .result) (c .before .middle-at2 .result) _ (c .before .before .before .mark-at .ensures) (c .before .before .middle-at .ensures) (c .before .middle-at2 .ensures) (c .fake-stroke .ensures)
+returns c = fake-read _ _ (c .before .before .before .before .args .p) (c .before .before .before .mark-at .result) (c .before .before .middle-at .result) (c .before .middle-at2 .result) _ (c .before .before .before .mark-at .ensures) (c .before .before .middle-at .ensures) (c .before .middle-at2 .ensures) (c .fake-stroke .ensures)
 
 pub fake-at-spec : {M : Type 1} → statement M
 fake-at-spec =

@@ -8,13 +8,13 @@ use Rattle.zones.proofs.fake_writing.write_fakes.Statement.{statement}
 use Rattle.zones.proofs.fake_writing.write_fakes.Tie as tie
 
 abbrev Inv-loop : tie.InvT-loop
-Inv-loop fs fp p n ot₀ op₀ od₀ j₀ ot op od j = (j ≤ n) × Writing (fractalStore fs fp) p (fakeColumns ot₀ op₀ od₀) (fakeColumns ot op od) j
+Inv-loop places fs fp p n ot₀ op₀ od₀ j₀ ot op od j = (j ≤ n) × Writing places (fractalStore fs fp) p (fakeColumns ot₀ op₀ od₀) (fakeColumns ot op od) j
 
 abbrev μ-loop : tie.MeasureT-loop
-μ-loop fs fp p n ot₀ op₀ od₀ j₀ ot op od j = n - j
+μ-loop places fs fp p n ot₀ op₀ od₀ j₀ ot op od j = n - j
 
 loop-holds : tie.Need-loop-holds Inv-loop μ-loop
-loop-holds c = (search needs, writing-none _ _ _)
+loop-holds c = (search needs, writing-none _ _ _ _)
 
 add-fake-at : tie.Need-add-fake-at Inv-loop μ-loop
 add-fake-at c = let r = c .before .before .before .pre .0 .stamps in let t = c .loop-test .taken in search needs
@@ -32,7 +32,7 @@ loop-less : tie.Need-loop-less Inv-loop μ-loop
 loop-less c = search needs
 
 loop-again : tie.Need-loop-again Inv-loop μ-loop
-loop-again c = let a = c .before .before .before .before .before .before .before .before .before .before .before .before .args in let l = c .before .before .before .before .before .before .before .before .before .before .loop in (search needs, writing-turn _ (a .p) (l .j) (a .n) _ _ _ (c .before .before .before .before .before .before .before .before .fake-at .result) (c .before .before .before .before .before .before .before .before .before .before .before .before .pre .1) (c .before .before .before .before .before .before .before .before .before .loop-test .taken) (l .inv .1) (c .before .before .before .before .before .before .before .before .fake-at .ensures) (c .before .before .before .before .write-fake .ensures))
+loop-again c = let a = c .before .before .before .before .before .before .before .before .before .before .before .before .args in let l = c .before .before .before .before .before .before .before .before .before .before .loop in (search needs, writing-turn _ _ (a .p) (l .j) (a .n) _ _ _ (c .before .before .before .before .before .before .before .before .fake-at .result) (c .before .before .before .before .before .before .before .before .before .before .before .before .pre .1) (c .before .before .before .before .before .before .before .before .before .loop-test .taken) (l .inv .1) (c .before .before .before .before .before .before .before .before .fake-at .ensures) (c .before .before .before .before .write-fake .ensures))
 
 same-length : tie.Need-same-length Inv-loop μ-loop
 same-length c = c .before .loop .inv .1 .times
@@ -44,7 +44,7 @@ same-length-3 : tie.Need-same-length-3 Inv-loop μ-loop
 same-length-3 c = c .before .loop .inv .1 .codes
 
 returns : tie.Need-returns Inv-loop μ-loop
-returns c = let a = c .before .before .before .args in let l = c .before .loop in writing-end _ (a .p) (l .j) (a .n) _ _ (l .inv .0) (search needs) (l .inv .1)
+returns c = let a = c .before .before .before .args in let l = c .before .loop in writing-end _ _ (a .p) (l .j) (a .n) _ _ (l .inv .0) (search needs) (l .inv .1)
 
 pub write-fakes-spec : {M : Type 1} → statement M
 write-fakes-spec =
