@@ -1,5 +1,7 @@
 // Floats: order, rounding and the sums behind the measures. Every function is total on every f64,
 // NaN and the infinities included, and equals a definition of specs/.
+#![tactic(auto)]
+
 mod order;
 mod rounding;
 mod sums;

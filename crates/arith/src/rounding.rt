@@ -16,7 +16,7 @@ ghost use Rattle.arith.specs.declared.rounding.Part.TheVariants.{Whole, Nearest,
 use crate::order::abs;
 
 // The part that an operand falls to. Every float falls to exactly one.
-#[derive(Drop)]
+#[derive(Clone, Copy)]
 enum Part {
     NotFinite,
     Whole,

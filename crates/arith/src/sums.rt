@@ -14,7 +14,7 @@ ghost use Rattle.arith.specs.Code.Accumulators.{mean_start, mean_more, mean_end,
 use crate::order::abs;
 
 // How many values, and their sum from the first term on.
-#[derive(Drop)]
+#[derive(Clone, Copy)]
 pub struct MeanSums {
     pub n: f64,
     pub sum: f64,
@@ -58,7 +58,7 @@ impl MeanSums {
 }
 
 // The sums of the slope: a second pass over the values, once their number and mean are known.
-#[derive(Drop)]
+#[derive(Clone, Copy)]
 pub struct SlopeSums {
     pub n: f64,
     pub xmean: f64,
@@ -118,7 +118,7 @@ impl SlopeSums {
 }
 
 // The seven sums of the quadratic fit, and how many values: sum_1.
-#[derive(Drop)]
+#[derive(Clone, Copy)]
 pub struct FitSums {
     pub n: f64,
     pub x4: f64,
@@ -207,7 +207,7 @@ impl FitSums {
 }
 
 // What SNR asks of bars in turn. bars is 0, 1, or 2 for two and more.
-#[derive(Drop)]
+#[derive(Clone, Copy)]
 pub struct SnrSums {
     pub bars: u8,
     pub first: f64,

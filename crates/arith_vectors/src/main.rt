@@ -10,6 +10,8 @@
 // The questions in stdin were made by `oracle/vectors arith 1`, and the answers in stdout are those
 // of the Rust itself: the driver of oracle/, which links the source files of czsc-core and calls
 // them on the same lines.
+#![tactic(auto)]
+
 mod questions;
 
 use libc::STDOUT_FILENO;

@@ -2,7 +2,7 @@
 use libc::STDOUT_FILENO;
 use lines::{Bits, float_of, is_word, show, value_at, word_end};
 
-#[derive(Drop)]
+#[derive(Clone, Copy)]
 enum Kind {
     Round,
     Places,
@@ -20,14 +20,14 @@ enum Kind {
     Unknown,
 }
 
-#[derive(Drop)]
+#[derive(Clone, Copy)]
 enum Answer {
     Is(f64),
     Bad,
     Long,
 }
 
-#[derive(Drop)]
+#[derive(Clone, Copy)]
 enum Values {
     Are(usize),
     Bad,

@@ -1,4 +1,6 @@
 // What a feed would do, asked before anything is written: what merging gives, the stroke that is found, the break, questions 5 to 12.
+#![tactic(auto)]
+
 mod merged_tail;
 mod plan;
 mod questions;

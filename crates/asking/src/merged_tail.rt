@@ -11,7 +11,7 @@ ghost use Rattle.stores.specs.Lent.{raw_held, raw_before, raw_after, merged_held
 
 use bars::Bar;
 
-#[derive(Drop)]
+#[derive(Clone, Copy)]
 pub struct TailAnswer {
     pub base: usize,
     pub rows: usize,

@@ -12,7 +12,7 @@ use machine::Mark;
 
 // Of the last stroke, what its break goes by: its start's mark, its high and low, how many merged bars it has, and the time of
 // the last but one of them.
-#[derive(Drop)]
+#[derive(Clone, Copy)]
 pub struct Last {
     pub mark: Mark,
     pub high: f64,
@@ -24,7 +24,7 @@ pub struct Last {
 // What a feed would do. The view is cut at place `cut`, and the stroke found counts its places from there. Where the last stroke
 // breaks, its bars without the last two come back, and behind them the view from place `join` on. Where none breaks, the view from
 // `join` on is left. `left` is how many unfinished bars there are then.
-#[derive(Drop)]
+#[derive(Clone, Copy)]
 pub struct Plan {
     pub cut: usize,
     pub found: FoundBi,

@@ -23,7 +23,7 @@ use strokes::{Stand, last_stroke_within, total_bars};
 
 // The first of questions 5 to 12 that is answered "no", or 0. Where it is 0: whether the bar is later than the newest raw bar, and what
 // the feed would do.
-#[derive(Drop)]
+#[derive(Clone, Copy)]
 pub struct Asked {
     pub failed: u64,
     pub later: bool,
@@ -31,14 +31,14 @@ pub struct Asked {
 }
 
 // The first of questions 5 to 10 that is answered "no", or 0, and whether the bar is later than the newest raw bar.
-#[derive(Drop)]
+#[derive(Clone, Copy)]
 struct Early {
     failed: u64,
     later: bool,
 }
 
 // What the feed would do, and how many unfinished bars there are after merging.
-#[derive(Drop)]
+#[derive(Clone, Copy)]
 struct Tried {
     plan: Plan,
     total: usize,

@@ -1,4 +1,6 @@
 // Bars as text: `TIME ID OPEN CLOSE HIGH LOW VOL AMOUNT`, floats as the 16 lower-case hexadecimal digits of their bits.
+#![tactic(auto)]
+
 mod shown;
 mod words;
 

@@ -4,19 +4,19 @@ ghost use Rattle.std.specs.Prelude.{◌≤◌, length};
 use bars::Bar;
 
 // A word's value, and the place after the word and the space behind it.
-#[derive(Drop)]
+#[derive(Clone, Copy)]
 pub enum Float {
     At(f64, usize),
     Bad,
 }
 
-#[derive(Drop)]
+#[derive(Clone, Copy)]
 pub enum Int {
     At(i64, usize),
     Bad,
 }
 
-#[derive(Drop)]
+#[derive(Clone, Copy)]
 pub enum Read {
     At(Bar, usize),
     Bad,

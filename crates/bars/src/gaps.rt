@@ -6,7 +6,7 @@ ghost use Rattle.bars.specs.Gaps.{ratio_of, covers_up, covers_down, has_no_ratio
 
 // A neighbouring pair: no gap, or an up or a down gap with its lower edge, its higher edge, the ratio, and whether a bar from
 // the pair's second on covered it. The ratio divides by the lower edge: where that is zero or less there is none.
-#[derive(Drop)]
+#[derive(Clone, Copy)]
 pub enum Gap {
     NoGap,
     Up(f64, f64, f64, bool),
@@ -16,7 +16,7 @@ pub enum Gap {
 }
 
 // The pair that was asked for, or that there is no such pair.
-#[derive(Drop)]
+#[derive(Clone, Copy)]
 pub enum GapAnswer {
     Pair(Gap),
     Missing,

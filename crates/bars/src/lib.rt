@@ -1,4 +1,6 @@
 // Bars, questions 5 to 9, merging and gaps.
+#![tactic(auto)]
+
 mod gaps;
 mod merging;
 mod questions;
@@ -11,7 +13,7 @@ pub use questions::{
 };
 
 // RawBar of the source: one bar as it is fed. Time is in seconds.
-#[derive(Drop)]
+#[derive(Clone, Copy)]
 pub struct Bar {
     pub time: i64,
     pub id: i32,
@@ -25,7 +27,7 @@ pub struct Bar {
 
 // NewBar of the source, document 01's merged bar: a bar, and the times of the raw bars that were
 // merged into it, its elements. The first `count` places of `elements` are in use.
-#[derive(Drop)]
+#[derive(Clone, Copy)]
 pub struct NewBar {
     pub bar: Bar,
     pub count: usize,

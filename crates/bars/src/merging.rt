@@ -9,14 +9,14 @@ use crate::{Bar, NewBar};
 
 // remove_include's answer without elements: whether k3 was merged with k2, and the bar that came of it, which is k3 where it
 // was not.
-#[derive(Drop)]
+#[derive(Clone, Copy)]
 pub struct IncludedBar {
     pub merged: bool,
     pub bar: Bar,
 }
 
 // remove_include's answer: the same with elements.
-#[derive(Drop)]
+#[derive(Clone, Copy)]
 pub struct Included {
     pub merged: bool,
     pub bar: NewBar,

@@ -6,6 +6,8 @@
 // and whether a price of 2^30 and the next float pass. An empty line and one that starts with `#` have no answer.
 //
 // The questions were made by the oracle's driver, and the answers are those of the Rust.
+#![tactic(auto)]
+
 mod answers;
 
 use lines::{Buffer, Buffered, Cursor};

@@ -18,7 +18,7 @@ use strokes::Stand;
 // What the batch call answers: the stand after the last bar that was accepted, how many bars were
 // accepted, the number of the question that was answered "no", or 0, and the strokes made, broken
 // and shed.
-#[derive(Drop)]
+#[derive(Clone, Copy)]
 pub struct BatchAnswer {
     pub stand: Stand,
     pub fed: usize,
@@ -29,7 +29,7 @@ pub struct BatchAnswer {
 }
 
 // The answer but for the stand: a bar then copies the stand once, and not with every sum.
-#[derive(Drop)]
+#[derive(Clone, Copy)]
 struct Sums {
     fed: usize,
     failed: u64,

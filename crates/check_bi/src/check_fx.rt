@@ -6,7 +6,7 @@ ghost use Rattle.check_bi.specs.Code.Scan.{fx_at, value_of, top_of, bottom_of, f
 use machine::Mark;
 
 // Of a merged bar, what fractals and strokes are found by.
-#[derive(Drop)]
+#[derive(Clone, Copy)]
 pub struct Candle {
     pub time: i64,
     pub high: f64,
@@ -14,7 +14,7 @@ pub struct Candle {
 }
 
 // FX of the source, without its bars: the place of the first of them, and the middle one's time, high and low.
-#[derive(Drop)]
+#[derive(Clone, Copy)]
 pub struct Fx {
     pub place: usize,
     pub mark: Mark,

@@ -1,4 +1,6 @@
 // The search for a stroke among the unfinished bars where they lie: check_fx.rt has check_fx of the source, scan.rt has check_bi, in one pass.
+#![tactic(auto)]
+
 mod check_fx;
 mod scan;
 

@@ -10,7 +10,7 @@ use machine::Mark;
 // What has been seen so far: how many fractals were taken, the last one's mark, the first one, the
 // one that the first stroke's cut would begin on, the best candidate, if there is one, and how many
 // fractals the stroke to it has.
-#[derive(Drop)]
+#[derive(Clone, Copy)]
 pub struct Scan {
     pub count: usize,
     pub last: Mark,
@@ -22,7 +22,7 @@ pub struct Scan {
 }
 
 // What check_bi finds, by place: whether a stroke is made, and then its ends and how many merged bars and fractals it has.
-#[derive(Drop)]
+#[derive(Clone, Copy)]
 pub struct FoundBi {
     pub made: bool,
     pub start: Fx,

@@ -5,8 +5,8 @@ use native.Mathlib.Nat.{zero-add}
 use mathlib.Core.Bool.{Bool, true, false}
 use mathlib.Core.List.{List, ◌∷◌}
 use Rattle.bars.specs.declared.Bar.{Bar}
-use Rattle.csv.specs.declared.Import.{Import}
-use Rattle.csv.specs.declared.Import.TheVariants.{Read, Refused}
+use Rattle.csv_text.specs.declared.Import.{Import}
+use Rattle.csv_text.specs.declared.Import.TheVariants.{Read, Refused}
 use Rattle.machine.specs.Feed.{Events}
 use Rattle.machine.specs.FeedQuestions.{or_else}
 use Rattle.strokes.specs.declared.Stand.{Stand}

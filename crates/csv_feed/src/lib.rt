@@ -1,19 +1,21 @@
 // A record of CSV text, read and fed in one call: questions 4, 18, 19, then 5 to 12.
+#![tactic(auto)]
+
 ghost use Rattle.std.specs.Prelude.{◌≡◌};
 ghost use Rattle.strokes.specs.Lent.{before, after};
 ghost use Rattle.machine.specs.FeedQuestions.{or_else};
 ghost use Rattle.question4.specs.Question4.{question4};
 ghost use Rattle.feed.specs.PortClaims.{PortDemand3};
-ghost use Rattle.csv.specs.Records.{read_text};
-ghost use Rattle.csv.specs.Claims.{ReadsBack, OneDivision};
+ghost use Rattle.csv_text.specs.Records.{read_text};
+ghost use Rattle.csv_text.specs.Claims.{ReadsBack, OneDivision};
 ghost use Rattle.csv_feed.specs.RecordCalls.{bytes_if, RecordFed, RecordsFeed};
 
-use csv::Import;
+use csv_text::Import;
 use feed::{Czsc, Updated};
 use strokes::Stand;
 
 // What a feed answers, and the record's length in bytes, quotes and CRLF included, which is 0 where the call was refused.
-#[derive(Drop)]
+#[derive(Clone, Copy)]
 pub struct UpdatedRecord {
     pub czsc: Czsc,
     pub failed: u64,
@@ -113,7 +115,7 @@ pub fn update_record(
 ) -> UpdatedRecord
     ensures { RecordFed czsc.stand (before rt ri rp ut ui up uc ue st si sp sc se fs fp) (read_text place text.now) result.failed result.made result.broken result.shed result.length result.czsc.stand (after rt ri rp ut ui up uc ue st si sp sc se fs fp) × RecordsFeed × PortDemand3 × ReadsBack × OneDivision }
 {
-    match csv::bar_of_text(text, place) {
+    match csv_text::bar_of_text(text, place) {
         Import::Read(bar, length) => {
             let u = czsc.update_bar(
                 rt, ri, rp, ut, ui, up, uc, ue, st, si, sp, sc, se, fs, fp, bar,

@@ -7,6 +7,8 @@
 //
 // The questions in stdin were made by `oracle/vectors csv 1`, and the answers in stdout are those of Python's csv, decimal and float
 // (oracle/csv_answers.py).
+#![tactic(auto)]
+
 mod questions;
 
 use lines::{Buffer, Buffered, Cursor};

@@ -1,9 +1,9 @@
 // A line's question and its answer.
-use csv::Import;
+use csv_text::Import;
 use lines::{Buffer, Buffered, WholeAt, digit, is_word, put};
 
 // A record's place, and the place of the line at which its text begins.
-#[derive(Drop)]
+#[derive(Clone, Copy)]
 enum Question {
     Of(usize, usize),
     Bad,
@@ -111,5 +111,5 @@ pub fn reply(out: &mut Buffer, o: Buffered, line: &mut [u8], number: u64) -> Buf
     if line.len() < n {
         return bad(out, o, number);
     }
-    say(out, o, csv::read_record(&line[..n], place))
+    say(out, o, csv_text::read_record(&line[..n], place))
 }

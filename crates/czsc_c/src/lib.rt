@@ -1,5 +1,7 @@
 // The entry points under C names, for a program in another language to link: sound::fresh, feed::Czsc::update_bar and batch::feed_all,
 // whose contracts are said again of the stand that lies packed in lent rows between two calls. No struct goes over.
+#![tactic(auto)]
+
 mod calls;
 mod handed;
 

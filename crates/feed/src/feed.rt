@@ -10,14 +10,14 @@ use bars::Bar;
 use strokes::Stand;
 
 // CZSC of the source: the stand by value, of which update_bar is a method. What it holds lies in lent stores.
-#[derive(Drop)]
+#[derive(Clone, Copy)]
 pub struct Czsc {
     pub stand: Stand,
 }
 
 // What a feed answers: the number of the first question that was answered "no", or 0, then strokes made, broken and shed, each 0 or 1;
 // and the analyzer, handed back.
-#[derive(Drop)]
+#[derive(Clone, Copy)]
 pub struct Updated {
     pub czsc: Czsc,
     pub failed: u64,
@@ -27,7 +27,7 @@ pub struct Updated {
 }
 
 // The same, with the bare stand: for callers that hold no Czsc.
-#[derive(Drop)]
+#[derive(Clone, Copy)]
 pub struct FeedAnswer {
     pub stand: Stand,
     pub failed: u64,

@@ -1,4 +1,6 @@
 // The step of a feed for callers that prove where their stand came from: a fresh analyzer, by such steps.
+#![tactic(auto)]
+
 ghost use Rattle.check_bi.specs.Code.Windows.{NoFractals};
 ghost use Rattle.strokes.specs.Lent.{held, before, after};
 ghost use Rattle.feed.specs.PortCalls.{FeedIs};

@@ -5,7 +5,7 @@ ghost use Rattle.std.specs.Float.Ieee.{of_bits};
 
 use crate::output::{Buffer, Buffered, flush, nothing_buffered, put, put_hex};
 
-#[derive(Drop)]
+#[derive(Clone, Copy)]
 pub enum Bits {
     Of(u64),
     Bad,

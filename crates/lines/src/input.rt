@@ -5,7 +5,7 @@ use libc::STDIN_FILENO;
 
 // Where the reading stands: the next byte and the number of bytes read into the buffer; of the line, how many bytes are kept and whether
 // it had more; whether the line goes on, whether the input may, and whether a read failed.
-#[derive(Drop)]
+#[derive(Clone, Copy)]
 pub struct Cursor {
     pub at: usize,
     pub filled: usize,

@@ -1,5 +1,7 @@
 // Lines of words, for the programs that answer them: floats by their bits, whole numbers, and where
 // a word ends.
+#![tactic(auto)]
+
 mod floats;
 mod input;
 mod numbers;

@@ -4,14 +4,14 @@ ghost use Rattle.std.specs.Prelude.{◌≤◌};
 use crate::output::{Buffer, Buffered, flush, nothing_buffered, put, put_decimal};
 use crate::words::word_end;
 
-#[derive(Drop)]
+#[derive(Clone, Copy)]
 pub enum Whole {
     Of(i64),
     Bad,
 }
 
 // A whole number and the place behind it.
-#[derive(Drop)]
+#[derive(Clone, Copy)]
 pub enum WholeAt {
     Is(i64, usize),
     Bad,
@@ -111,7 +111,7 @@ pub fn write_whole(t: i64) {
     flush(&out, o);
 }
 
-#[derive(Drop)]
+#[derive(Clone, Copy)]
 pub enum Small {
     Of(i32),
     Bad,

@@ -6,7 +6,7 @@ use libc::STDOUT_FILENO;
 pub type Buffer = [u8; 65536];
 
 // How many bytes of the buffer wait to be written, and whether a write failed. After that nothing is written any more.
-#[derive(Drop)]
+#[derive(Clone, Copy)]
 pub struct Buffered {
     pub used: usize,
     pub failed: bool,

@@ -1,4 +1,6 @@
 // What is named by a place: a kept stroke, a fractal, a run of kept strokes, and questions 13 and 14, which every report asks of a name and of its output.
+#![tactic(auto)]
+
 mod fractals;
 mod runs;
 mod stroke_rows;

@@ -6,7 +6,7 @@ ghost use Rattle.named.specs.Code.NamedRows.{rows_of, end_row};
 use strokes::Stand;
 
 // The place of its first row, and how many bars and fractals it has.
-#[derive(Drop)]
+#[derive(Clone, Copy)]
 pub struct StrokeRows {
     pub first: usize,
     pub bars: usize,

@@ -1,4 +1,6 @@
 // Question 4 as every call asks it. Whatever soundness comes to ask of a stand beyond the stores that it keeps is asked here, above the asking of a feed.
+#![tactic(auto)]
+
 ghost use Rattle.std.specs.Prelude.{◌≡◌};
 ghost use Rattle.strokes.specs.Lent.{before};
 ghost use Rattle.question4.specs.Question4.{question4};

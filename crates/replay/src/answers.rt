@@ -190,7 +190,7 @@ fn is_feed(p: Player) -> bool {
 }
 
 // The player and the stand after a call.
-#[derive(Drop)]
+#[derive(Clone, Copy)]
 pub struct Played {
     pub player: Player,
     pub stand: Stand,

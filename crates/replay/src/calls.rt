@@ -4,7 +4,7 @@ use bars::Bar;
 use strokes::Rooms;
 
 // A whole number from 0 up, and the place behind it.
-#[derive(Drop)]
+#[derive(Clone, Copy)]
 enum Count {
     At(usize, usize),
     Bad,
@@ -47,7 +47,7 @@ fn only_bar(line: &[u8], at: usize) -> Read {
 
 // Which call a line is: 1 a fresh analyzer with these settings and rooms, 2 a feed of the bar, 3 the stand, 4 the reports, 5 a line to pass over, 0 none of
 // these.
-#[derive(Drop)]
+#[derive(Clone, Copy)]
 pub struct Call {
     pub kind: u8,
     pub bar: Bar,

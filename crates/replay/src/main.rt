@@ -5,6 +5,8 @@
 //
 // oracle/replays wrote stdin and stdout: the Rust answered the parts in which no store fills up. The Rust asks no questions, so the refusals are
 // document 01's: 1 to 3 and 5 to 9 by the tests of the oracle's driver, 4 and 10 to 12 by its model (oracle/model), as the comments of stdin say.
+#![tactic(auto)]
+
 mod analyzers;
 mod answers;
 mod calls;

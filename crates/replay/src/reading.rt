@@ -6,7 +6,7 @@ use strokes::Rooms;
 
 // Where the reading stands, the number of lines read, how the answers are written, and the call of the last line; whether an `n` was accepted; whether the analyzer goes on with the next line, and
 // whether one more is to be made, of that call.
-#[derive(Drop)]
+#[derive(Clone, Copy)]
 pub struct Player {
     pub cursor: Cursor,
     pub lines: u64,

@@ -1,4 +1,6 @@
 // The stand and the reports as lines of the replay format.
+#![tactic(auto)]
+
 mod all_reports;
 mod dump;
 mod text;

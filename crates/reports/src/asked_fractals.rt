@@ -16,7 +16,7 @@ use named::StrokeRows;
 use strokes::Stand;
 
 // Document 01's number of the first question that failed, 0 where none did, and the answers.
-#[derive(Drop)]
+#[derive(Clone, Copy)]
 pub struct FractalAnswer {
     pub failed: u64,
     pub answers: FractalAnswers,

@@ -18,7 +18,7 @@ use named::StrokeRows;
 use strokes::Stand;
 
 // Document 01's number of the first question that failed, 0 where none did, and the measures.
-#[derive(Drop)]
+#[derive(Clone, Copy)]
 pub struct MeasuresAnswer {
     pub failed: u64,
     pub measures: Measures,

@@ -16,14 +16,14 @@ use named::kept;
 use strokes::Stand;
 
 // How many of the kept strokes are finished: they are the first so many. Beside a refusal's number it is 0.
-#[derive(Drop)]
+#[derive(Clone, Copy)]
 pub struct FinishedBis {
     pub failed: u64,
     pub count: usize,
 }
 
 // Whether the last stroke goes on. Beside a refusal's number it is false.
-#[derive(Drop)]
+#[derive(Clone, Copy)]
 pub struct LastBiExtend {
     pub failed: u64,
     pub extends: bool,

@@ -8,7 +8,7 @@ use bars::Bar;
 use machine::Mark;
 
 // power_str of the source: how far the third bar closes back.
-#[derive(Drop)]
+#[derive(Clone, Copy)]
 pub enum Strength {
     Strong,
     Medium,
@@ -16,7 +16,7 @@ pub enum Strength {
 }
 
 // power_str, power_volume and has_zs of the source.
-#[derive(Drop)]
+#[derive(Clone, Copy)]
 pub struct FractalAnswers {
     pub power_str: Strength,
     pub power_volume: f64,

@@ -18,7 +18,7 @@ use named::kept;
 use strokes::Stand;
 
 // How many fractals are listed, here and by ubi_fxs. Beside a refusal's number it is 0.
-#[derive(Drop)]
+#[derive(Clone, Copy)]
 pub struct FxListAnswer {
     pub failed: u64,
     pub count: usize,

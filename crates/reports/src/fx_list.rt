@@ -11,7 +11,7 @@ ghost use Rattle.reports.specs.Code.FxListing.{time_listed, listing, step_row, s
 use bars::Bar;
 
 // How many fractals are listed, and the time of the last one.
-#[derive(Drop)]
+#[derive(Clone, Copy)]
 pub struct Listed {
     pub count: usize,
     pub time: i64,

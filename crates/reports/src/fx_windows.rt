@@ -14,7 +14,7 @@ use check_bi::Candle;
 use machine::Mark;
 
 // After a window: whether a fractal has been taken, the last one's mark, and whether it was the fractal of this window.
-#[derive(Drop)]
+#[derive(Clone, Copy)]
 pub struct Window {
     pub begun: bool,
     pub last: Mark,

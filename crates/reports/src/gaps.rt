@@ -9,14 +9,14 @@ use bars::{Gap, GapAnswer};
 use strokes::Stand;
 
 // The pair that was asked for. Beside a refusal's number it is no gap.
-#[derive(Drop)]
+#[derive(Clone, Copy)]
 pub struct GapInfo {
     pub failed: u64,
     pub gap: Gap,
 }
 
 // How many pairs are listed. Beside a refusal's number it is 0.
-#[derive(Drop)]
+#[derive(Clone, Copy)]
 pub struct GapsAnswer {
     pub failed: u64,
     pub count: usize,

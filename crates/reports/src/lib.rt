@@ -1,4 +1,6 @@
 // What is asked of kept strokes and of unfinished bars: measures, fractal answers, lists, the unfinished summary.
+#![tactic(auto)]
+
 mod asked_fractals;
 mod asked_measures;
 mod asked_raw_bars;

@@ -19,7 +19,7 @@ use arith::{FitSums, MeanSums, SlopeSums, SnrSums};
 use machine::Mark;
 
 // What bi.rs answers of a stroke. `length` is the number of its merged bars.
-#[derive(Drop)]
+#[derive(Clone, Copy)]
 pub struct Measures {
     pub high: f64,
     pub low: f64,
@@ -34,7 +34,7 @@ pub struct Measures {
 }
 
 // ---- of the end fractals. All that the measures ask of one: its mark, and high and low of its middle bar.
-#[derive(Drop)]
+#[derive(Clone, Copy)]
 pub struct StrokeEnd {
     pub mark: Mark,
     pub high: f64,
@@ -139,7 +139,7 @@ fn read(y: f64) -> f64
 }
 
 // The sums of the first pass over the inner raw bars.
-#[derive(Drop)]
+#[derive(Clone, Copy)]
 struct InnerSums {
     mean: MeanSums,
     fit: FitSums,
@@ -245,7 +245,7 @@ fn slope_rows(
 }
 
 // What the inner raw bars give.
-#[derive(Drop)]
+#[derive(Clone, Copy)]
 struct InnerMeasures {
     snr: f64,
     power_snr: f64,

@@ -17,7 +17,7 @@ use check_bi::Candle;
 use machine::Mark;
 
 // How many fractals are still to be passed over, the mark of the last one taken, if any was, and, once it is found, the answers of the one that is sought.
-#[derive(Drop)]
+#[derive(Clone, Copy)]
 pub struct Sought {
     pub skip: usize,
     pub any: bool,

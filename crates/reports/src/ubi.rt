@@ -21,7 +21,7 @@ use named::kept;
 use strokes::Stand;
 
 // The highest and the lowest of the bars that were seen, if any was.
-#[derive(Drop)]
+#[derive(Clone, Copy)]
 pub struct Extremes {
     pub seen: bool,
     pub high: Bar,
@@ -29,7 +29,7 @@ pub struct Extremes {
 }
 
 // A fractal: its mark and its three bars.
-#[derive(Drop)]
+#[derive(Clone, Copy)]
 pub struct FractalBars {
     pub mark: Mark,
     pub left: Bar,
@@ -40,7 +40,7 @@ pub struct FractalBars {
 // UBI of the source, its lists by their lengths: `bars` are the stand's unfinished bars and `raw` its kept raw
 // bars, both of which stand in the lent stores; `fractals` are those of the unfinished bars, of which `first` is
 // the first, and ubi_fxs lists them. Beside a refusal's number all is zero.
-#[derive(Drop)]
+#[derive(Clone, Copy)]
 pub struct UbiAnswer {
     pub failed: u64,
     pub direction: Direction,

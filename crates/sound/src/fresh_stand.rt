@@ -11,7 +11,7 @@ use strokes::{Rooms, Stand};
 
 // What a fresh analyzer answers: the number of the question that was answered "no", or 0, and the
 // stand.
-#[derive(Drop)]
+#[derive(Clone, Copy)]
 pub struct FreshAnswer {
     pub refused: u64,
     pub stand: Stand,

@@ -1,4 +1,6 @@
 // Questions 1 to 4 of document 01: a fresh analyzer, and whether a stand is sound.
+#![tactic(auto)]
+
 mod fresh_stand;
 mod newest;
 mod soundness;

@@ -468,7 +468,7 @@ fn at_most(n: usize, m: usize) -> usize
 
 // Whether elements are raw times, and a place to look for the next ones at: a wrong place costs time
 // only.
-#[derive(Drop)]
+#[derive(Clone, Copy)]
 struct Sought {
     named: bool,
     next: usize,

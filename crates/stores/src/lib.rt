@@ -1,4 +1,6 @@
 // The lent stores of raw bars and of merged bars, and merging into a tail of bars of one's own.
+#![tactic(auto)]
+
 mod bar_stores;
 mod rows;
 mod tails;

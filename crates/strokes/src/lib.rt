@@ -1,4 +1,6 @@
 // The stand and its lent stores, and the writing steps of update_bar on them.
+#![tactic(auto)]
+
 mod fractal_rows;
 mod packed;
 mod raw_store;
@@ -11,7 +13,7 @@ pub use raw_store::count_before;
 pub use strokes_store::{LastStroke, Written, last_stroke, last_stroke_within, total_bars};
 
 // How many bars each lent store takes.
-#[derive(Drop)]
+#[derive(Clone, Copy)]
 pub struct Rooms {
     pub raw: usize,
     pub unfinished: usize,
@@ -22,7 +24,7 @@ pub struct Rooms {
 // number of strokes kept; `bars` and `fractals` have the number of merged bars and of fractals of
 // each, oldest first. A stroke just made counts before one is shed, so there are 65 places. The last
 // two are settings: how many decimal places power and ratios are rounded to.
-#[derive(Drop)]
+#[derive(Clone, Copy)]
 pub struct Stand {
     pub minimum: usize,
     pub most: usize,

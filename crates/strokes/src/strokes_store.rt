@@ -17,7 +17,7 @@ use check_bi::Candle;
 use machine::{Direction, Mark};
 
 // The fractals that have been written: how many, and the last one's mark.
-#[derive(Drop)]
+#[derive(Clone, Copy)]
 pub struct Written {
     pub count: usize,
     pub last: Mark,
@@ -25,7 +25,7 @@ pub struct Written {
 
 // What the break test asks of the last stroke: the higher high and the lower low of its end fractals, its
 // direction, how many bars it has, the time of its last bar but one, and the place where its bars begin.
-#[derive(Drop)]
+#[derive(Clone, Copy)]
 pub struct LastStroke {
     pub high: f64,
     pub low: f64,

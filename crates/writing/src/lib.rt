@@ -1,4 +1,6 @@
 // The writing steps of a feed, put together: what the plan says is written to the lent stores.
+#![tactic(auto)]
+
 mod feed_writing;
 mod raw_moves;
 mod stroke_moves;
@@ -8,7 +10,7 @@ pub use feed_writing::write;
 use strokes::Stand;
 
 // The stand after a feed, and how many strokes it made, broke and shed.
-#[derive(Drop)]
+#[derive(Clone, Copy)]
 pub struct Wrote {
     pub stand: Stand,
     pub made: u64,

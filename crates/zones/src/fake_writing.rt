@@ -17,7 +17,7 @@ use named::{mark_at, middle_at};
 use strokes::Stand;
 
 // The number of the question that was answered no, or 0, and how many fake strokes are listed.
-#[derive(Drop)]
+#[derive(Clone, Copy)]
 pub struct FakesAnswer {
     pub failed: u64,
     pub count: usize,

@@ -8,7 +8,7 @@ use machine::Direction;
 
 // The zone under construction, how many strokes it has, and how many zones are done. Before the
 // first stroke there is no zone: the size is 0.
-#[derive(Drop)]
+#[derive(Clone, Copy)]
 pub struct Building {
     pub zone: GrowingZone,
     pub size: usize,

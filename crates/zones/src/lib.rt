@@ -1,4 +1,6 @@
 // Fake strokes, zones, and what is told of runs of strokes.
+#![tactic(auto)]
+
 mod fake_strokes;
 mod fake_writing;
 mod lent_zone;
@@ -19,7 +21,7 @@ pub use zone_writing::{ZonesAnswer, get_zs_seq};
 
 // What a zone reads of a stroke, a BI of the source: its direction, get_high, get_low, and the times
 // of its start and its end fractal.
-#[derive(Drop)]
+#[derive(Clone, Copy)]
 pub struct Summary {
     pub direction: Direction,
     pub high: f64,
@@ -29,7 +31,7 @@ pub struct Summary {
 }
 
 // FakeBI of the source: two neighbouring fractals of a stroke's list, read as a stroke.
-#[derive(Drop)]
+#[derive(Clone, Copy)]
 pub struct FakeStroke {
     pub direction: Direction,
     pub sdt: i64,

@@ -12,7 +12,7 @@ use named::run_exists;
 use strokes::Stand;
 
 // The number of the question that was answered no, or 0, and the answer.
-#[derive(Drop)]
+#[derive(Clone, Copy)]
 pub struct RunAnswer {
     pub failed: u64,
     pub answer: bool,

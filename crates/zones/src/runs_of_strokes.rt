@@ -10,7 +10,7 @@ use machine::Direction;
 
 // `odd` is whether the number of strokes is odd, `three` whether it is at least 3, and `in_order`
 // whether the end times rise strictly.
-#[derive(Drop)]
+#[derive(Clone, Copy)]
 pub struct GrowingRun {
     pub first: Summary,
     pub last: Summary,

@@ -11,7 +11,7 @@ use machine::Direction;
 // stand still after the third; is_valid asks all strokes against them. So the first three are kept,
 // a missing one standing for the one before it, and each later one is asked as it joins: `later` is
 // whether all of those met the range.
-#[derive(Drop)]
+#[derive(Clone, Copy)]
 pub struct GrowingZone {
     pub few: u8,
     pub first: Summary,

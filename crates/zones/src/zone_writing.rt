@@ -19,7 +19,7 @@ use machine::Direction;
 use strokes::Stand;
 
 // The number of the question that was answered no, or 0, and how many zones and strokes are listed.
-#[derive(Drop)]
+#[derive(Clone, Copy)]
 pub struct ZonesAnswer {
     pub failed: u64,
     pub zones: usize,

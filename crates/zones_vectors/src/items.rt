@@ -7,20 +7,20 @@ use machine::{Direction, Mark};
 use zones::{Summary, no_stroke};
 
 // A stroke and the place behind it.
-#[derive(Drop)]
+#[derive(Clone, Copy)]
 pub struct StrokeAt {
     pub summary: Summary,
     pub end: usize,
 }
 
-#[derive(Drop)]
+#[derive(Clone, Copy)]
 pub enum ReadStroke {
     Is(StrokeAt),
     Bad,
 }
 
 // The strokes of a line, how many they are, and whether the line could be read to its end.
-#[derive(Drop)]
+#[derive(Clone, Copy)]
 pub struct StrokesRead {
     pub run: [Summary; 64],
     pub count: usize,
@@ -28,20 +28,20 @@ pub struct StrokesRead {
 }
 
 // A fractal and the place behind it.
-#[derive(Drop)]
+#[derive(Clone, Copy)]
 pub struct FractalAt {
     pub mark: Mark,
     pub candle: Candle,
     pub end: usize,
 }
 
-#[derive(Drop)]
+#[derive(Clone, Copy)]
 pub enum ReadFractal {
     Is(FractalAt),
     Bad,
 }
 
-#[derive(Drop)]
+#[derive(Clone, Copy)]
 enum Prices {
     Are(f64, f64),
     Bad,

@@ -14,6 +14,8 @@
 // The questions in stdin are the first 1,100 of each name of those that `oracle/vectors zones 1`
 // makes, and the answers in stdout are those of the Rust itself: the driver of oracle/, which links
 // the source files of czsc-core and calls them on the same lines.
+#![tactic(auto)]
+
 mod answers;
 mod items;
 

@@ -1,6 +1,6 @@
 use mathlib.Core.Path.{refl}
-use Rattle.csv.proofs.Quotients.{one_division}
-use Rattle.csv.proofs.BothWays.{reads-back}
+use Rattle.csv_text.proofs.Quotients.{one_division}
+use Rattle.csv_text.proofs.BothWays.{reads-back}
 use Rattle.feed.proofs.PortDemand3.{port_demand3}
 use Rattle.csv_feed.proofs.RecordAnswers.{record-fed, record-refused, records_feed}
 use borrow.Author.Rules.{rules}

@@ -1,0 +1,15 @@
+use borrow.Author.Tests.{le-leb, lt-leb}
+use Rattle.csv_text.specs.Written.{is_digit}
+use Rattle.csv_text.proofs.numerals.is_digit.Statement.{statement}
+use Rattle.csv_text.proofs.numerals.is_digit.Tie as tie
+
+returns : tie.Need-returns
+unfolding is_digit
+returns c = rw (le-leb 48 _ c.if1.true)
+
+returns-2 : tie.Need-returns-2
+unfolding is_digit
+returns-2 c = rw (lt-leb 48 _ c.if1.false)
+
+pub is-digit-spec : {M : Type 1} → statement M
+is-digit-spec = tie.close (tie.spec returns returns-2)
