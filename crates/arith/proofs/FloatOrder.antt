@@ -26,6 +26,7 @@ contra false h k = absurd h
 
 pub or_l : (a b : Bool) → T a → T (a || b)
 or_l true b h = tt
+or_l false b h = elim h [ ]
 
 pub or_r : (a b : Bool) → T b → T (a || b)
 or_r true b h = tt

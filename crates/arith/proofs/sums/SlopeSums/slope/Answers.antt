@@ -1,0 +1,11 @@
+use lib.Ieee.{of_bits}
+use Rattle.arith.specs.Code.Accumulators.{slope_end, slope_end_if}
+use Rattle.arith.proofs.sums.SlopeSums.slope.Goals as goal
+
+pub returns-then-self : goal.returns-then-self
+unfolding of_bits slope_end slope_end_if
+returns-then-self c = rw c.if-self.true
+
+pub returns : goal.returns
+unfolding of_bits slope_end slope_end_if
+returns c = rw c.if-self.false c.ratio.ensures
