@@ -13,6 +13,32 @@ FIELDS = {"well-formed": "well_formed", "type-inv": "type_inv"}
 SPLIT = re.compile(r"(?m)^(?=\S)")
 
 
+def words_of_sources():
+    found = set()
+    for folder, _, files in os.walk("crates"):
+        for f in files:
+            if f.endswith(".rt"):
+                with open(os.path.join(folder, f), encoding="utf-8") as fh:
+                    found |= set(re.findall(r"[a-z]\w*_\w+", fh.read()))
+    return found
+
+
+SOURCE = words_of_sources()
+
+
+def source(x):
+    """A name of the source keeps its spelling, where an older Rattle wrote dashes."""
+    x = FIELDS.get(x, x)
+    return x.replace("-", "_") if x.replace("-", "_") in SOURCE else x
+
+
+def spelled(m, var):
+    """A path with the names of the source in it; the first part behind the goal's argument is a step, and stays."""
+    parts = m.group(2).split(".")
+    first = 2 if m.group(1) == var else 1
+    return m.group(1) + ".".join(parts[:first] + [source(x) for x in parts[first:]])
+
+
 def same(a, b):
     f = lambda s: s.replace("-", "_")
     return f(a) == f(b)
@@ -129,7 +155,7 @@ def turned(body, f, place, var):
         if got is None:
             whole.append(m.group(0))
             return var if at == place else m.group(0)
-        return var + "." + ".".join(FIELDS.get(x, x) for x in got)
+        return var + "." + ".".join(got[:1] + [source(x) for x in got[1:]] if got[0] not in FIELDS else [FIELDS[got[0]]] + got[1:])
 
     out = PATH.sub(path, out)
     return out, [w for w in whole if w != var]
@@ -269,6 +295,7 @@ def turn(path, d, rel, check):
             table = {p: w for p, w in zip(params, want) if p != "_"}
             body = re.sub(r"(?<![\w.«-])(" + ID + r")", lambda q: table.get(q.group(1), q.group(1)), body)
             body = PATH.sub(lambda q: table.get(q.group(1), q.group(1)) + q.group(2) if q.group(1) in table else q.group(0), body)
+            body = re.sub(r"(?<=[\w'])((?:\." + ID + r")+)", lambda q: ".".join(source(x) for x in q.group(1).split(".")), body)
             name = kind[:at] + "-" + new
             invariants += g["comment"] + f"abbrev pub {name} : goal.{name}\n" + g["unfolding"] + f"{name} l ={body.rstrip()}\n\n"
             continue
@@ -284,11 +311,12 @@ def turn(path, d, rel, check):
         var = params[0] if params else "c"
         if not params:
             left.append(f"no argument {g['name']}")
-        if re.sub(r"\s", "", body) == "searchrules":
+        if re.sub(r"\s", "", body) == "searchrules" and not g["unfolding"]:
             continue
         body, whole = turned(body, f, place, var)
         if whole:
             left.append(f"{g['name']}: a place stands whole: {whole[:3]}")
+        body = PATH.sub(lambda q: spelled(q, var), body)
         asked = None
         for k, v in d["asked"].items():
             if same(k, old) or same(k, new):
@@ -344,6 +372,8 @@ def used(name, words, body):
     parts = [p for p in n.split("◌") if p]
     if "◌" in n:
         return all(p in body for p in parts)
+    if n == "[]":
+        return re.search(r"\[\s*\]", body) is not None
     if n in words:
         return True
     return any(w.split(".")[0] == n for w in words)

@@ -1,7 +1,7 @@
 -- Laws of the unfinished bars seen as the store's first bars and a tail behind them. Assumes nothing.
 use Prim.Native.Nat.{ℕ, zero, suc, ◌+◌, ◌-◌, ◌<◌, ◌≤◌}
 use mathlib.Core.Bool.{Bool, true, false}
-use mathlib.Core.List.{List, [], ◌∷◌, ◌++◌, map, append_nil}
+use mathlib.Core.List.{List, [], ◌∷◌, ◌++◌, map, append-nil}
 use mathlib.Core.Option.{some}
 use mathlib.Core.Path.{◌≡◌, refl, ap, sym, ◌∙◌, subst}
 use native.Mathlib.Numerals.{add-one}
@@ -190,7 +190,7 @@ merge_both l (x ∷ a) b = merge_both (merge_bars l x) a b
 -- the first time of some, and then the others
 times_both : (raw : List Bar) (t : ℤ) (ts : List ℤ) → at_times raw (t ∷ []) ++ at_times raw ts ≡ at_times raw (t ∷ ts)
 unfolding at_times
-times_both raw t ts = ap (λ (x : List Bar). x ++ at_times raw ts) (append_nil (keep_if (timed (λ b. b.time) t) raw))
+times_both raw t ts = ap (λ (x : List Bar). x ++ at_times raw ts) (append-nil (keep_if (timed (λ b. b.time) t) raw))
 
 -- while the bars of the times es are still to be merged into the tail t of m bars: what is left to merge gives the answer
 pub record TailGoing (u t : RawStore) (k n m : ℕ) (raw : List Bar) (es : List ℤ) (answer : List Bar) : Type 0 where

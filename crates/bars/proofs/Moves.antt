@@ -1,7 +1,7 @@
 -- Rows of a list replaced one by one: the laws of a loop that copies, of one that moves rows down, and of one that moves them up, for every type of row.
 -- Assumes nothing.
 use Prim.Native.Nat.{ℕ, zero, suc, ◌+◌, ◌-◌, ◌<◌, ◌≤◌}
-use mathlib.Core.List.{List, [], ◌∷◌, ◌++◌, append_nil, append_assoc}
+use mathlib.Core.List.{List, [], ◌∷◌, ◌++◌, append-nil, append_assoc}
 use mathlib.Core.Path.{◌≡◌, refl, ap, sym, ◌∙◌}
 use native.Mathlib.Nat.{zero-add, suc-add, le_refl}
 use native.Mathlib.Numerals.{add-one}
@@ -151,4 +151,4 @@ module _ {A : Type 0} where
   part_copied d s p r at from n h i e =
       let whole : (x : List A) (a : ℕ) → take (length x - a) (drop a x) ≡ drop a x = λ x a. take_all (length x - a) (drop a x) (rw length-drop (le_refl (length x - a))) in
       let none : drop (length d - at) (drop at d) ≡ [] = drop_of_length-le (drop at d) {i = length d - at} (rw length-drop (le_refl (length d - at))) in
-      rw (none, append_nil, e, i, whole s from, whole d at, zero-add, drop-drop) (sym (append_assoc (take at d) (take n (drop from s)) (drop (at + n) d)))
+      rw (none, append-nil, e, i, whole s from, whole d at, zero-add, drop-drop) (sym (append_assoc (take at d) (take n (drop from s)) (drop (at + n) d)))

@@ -5,7 +5,7 @@ use native.Mathlib.Omega.{arith}
 use native.Mathlib.Numerals.{add-one}
 use mathlib.Core.Path.{◌≡◌, refl, ap, sym, ◌∙◌, subst}
 use mathlib.Core.Bool.{Bool, true, false, not, ◌&&◌, cond}
-use mathlib.Core.List.{List, [], ◌∷◌, ◌++◌, map, append_assoc, append_nil}
+use mathlib.Core.List.{List, [], ◌∷◌, ◌++◌, map, append_assoc, append-nil}
 use mathlib.Core.Option.{Option, none, some}
 use mathlib.Core.Logic.{◌⊎◌, inl, inr}
 use lib.ListN.{length, take, drop, length-drop, length-map, length-append}
@@ -353,7 +353,7 @@ upto_put s ps q h a = upto_if_lem (closes_of s (fx_placed q)) s ps q h a
 
 upto_fold : (lo n : ℕ) (qs : List Placed) (s : Scan) (ps : List Placed) → Upto s ps → All (λ x. x.place < lo) ps → Ascend lo n qs → Upto (fold_left put s qs) (ps ++ qs)
 unfolding fold_left
-upto_fold lo n [] s ps h a b = subst (Upto s) (sym (append_nil ps)) h
+upto_fold lo n [] s ps h a b = subst (Upto s) (sym (append-nil ps)) h
 upto_fold lo n (q ∷ qs) s ps h a b =
     let c : All (λ (x : Placed). x.place ≤ q.place) ps = All-map ps (λ x k. omega (arith, b.0)) a in
     subst (Upto (fold_left put (put s q) qs)) (append_assoc ps (q ∷ []) qs)

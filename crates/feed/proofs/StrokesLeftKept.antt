@@ -4,7 +4,7 @@ use Prim.Native.Nat.{ℕ, zero, suc, ◌+◌, ◌<◌}
 use native.Mathlib.Omega.{arith}
 use mathlib.Core.Path.{◌≡◌, refl, ap, sym, ◌∙◌}
 use mathlib.Core.Bool.{Bool, true, false}
-use mathlib.Core.List.{List, [], ◌∷◌, ◌++◌, map, map-append, append_nil, append_cancel_left, append_cancel_right}
+use mathlib.Core.List.{List, [], ◌∷◌, ◌++◌, map, map-append, append-nil, append_cancel_left, append_cancel_right}
 use mathlib.Core.Option.{Option, none, some}
 use lib.ListN.{length, take, drop, take-append-drop}
 use lib.Seq.{drop-length, drop-append_seam, length-take-le}
@@ -26,7 +26,7 @@ use Rattle.feed.proofs.PortFollows.{added_assoc, added_none, none-added}
 -- ---- lists
 
 none-behind : (l : List Stroke) → l ++ drop (length l) l ≡ l
-none-behind l = ap (λ (z : List Stroke). l ++ z) (drop-length l) ∙ append_nil l
+none-behind l = ap (λ (z : List Stroke). l ++ z) (drop-length l) ∙ append-nil l
 
 last-behind : (l : List Stroke) (x : Stroke) → last l ≡ some x → drop (length (init l)) l ≡ x ∷ []
 last-behind l x h = ap (drop (length (init l))) (last_snoc l x h) ∙ drop-append_seam (init l) (x ∷ [])

@@ -3,7 +3,7 @@
 use Prim.Native.Nat.{ℕ, zero, suc}
 use mathlib.Core.Path.{◌≡◌, refl, ap, sym, ◌∙◌, subst}
 use mathlib.Core.Bool.{Bool}
-use mathlib.Core.List.{List, [], ◌∷◌, ◌++◌, append_assoc, append_nil, nil≢cons}
+use mathlib.Core.List.{List, [], ◌∷◌, ◌++◌, append_assoc, append-nil, nil≢cons}
 use mathlib.Core.Option.{Option, none, some, none-ne-some}
 use lib.ListN.{length}
 use lib.IntN.{ℤ}
@@ -60,7 +60,7 @@ newest_by (suc n) c s b p l h e = (p, e, refl)
 
 newest-run : (c : Settings) (s : Step) (bs p : List Bar) → Reached c s.state → last s.state.raw ≡ last p → last (run c s bs).state.raw ≡ last (p ++ accepted c s.state bs)
 unfolding run accepted feed passes
-newest-run c s [] p r e = e ∙ ap last (sym (append_nil p))
+newest-run c s [] p r e = e ∙ ap last (sym (append-nil p))
 newest-run c s (b ∷ bs) p r e =
     let k = newest_by (failed c s.state b) c s.state b p (accepted c (feed c s.state b).state bs) (λ h. newest-step c s.state b r (asks c s.state b h).1) e in
     newest-run c _ bs k.0 (next_reached c s.state b r) k.1 ∙ ap last k.2

@@ -4,7 +4,7 @@ use native.Mathlib.Numerals.{add-one}
 use native.Mathlib.Omega.{arith}
 use mathlib.Core.Path.{◌≡◌, refl, ap, sym, ◌∙◌, subst}
 use mathlib.Core.Bool.{Bool, true, false}
-use mathlib.Core.List.{List, [], ◌∷◌, ◌++◌, map, append_nil}
+use mathlib.Core.List.{List, [], ◌∷◌, ◌++◌, map, append-nil}
 use mathlib.Core.Option.{Option, none, some}
 use lib.ListN.{length, take, drop, get_or, set, length-set, take-append-drop}
 use lib.Seq.{take-suc-set, drop-set-lt, append_snoc}
@@ -22,7 +22,7 @@ put_none : {A : Type 0} (d : List A) (c : ℕ) → d ≡ pasted d c []
 unfolding pasted
 put_none {A} d c =
     let e : c + 0 ≡ c = omega arith in
-    sym ((λ i. append_nil (take c d) i ++ drop (e i) d) ∙ take-append-drop c d)
+    sym ((λ i. append-nil (take c d) i ++ drop (e i) d) ∙ take-append-drop c d)
 
 put_next : {A : Type 0} (d : List A) (c : ℕ) (r : A) (l : List A) → c < length d → pasted (set d c r) (c + 1) l ≡ pasted d c (r ∷ l)
 unfolding pasted

@@ -4,7 +4,7 @@ use Prim.Native.Nat.{ℕ, suc, ◌+◌, ◌-◌, ◌≤◌, ◌<◌}
 use native.Mathlib.Omega.{arith}
 use mathlib.Core.Path.{◌≡◌, refl, ap, sym, ◌∙◌, subst}
 use mathlib.Core.Bool.{Bool, true, false, ◌&&◌}
-use mathlib.Core.List.{List, [], ◌∷◌, ◌++◌, map, foldl, append_nil}
+use mathlib.Core.List.{List, [], ◌∷◌, ◌++◌, map, foldl, append-nil}
 use mathlib.Core.Option.{none}
 use lib.Dec.{T, leb}
 use lib.IntN.{ℤ}
@@ -43,7 +43,7 @@ module _ {A : Type 0} where
   unfolding pasted
   paste_none d at =
       let e : at ≡ at + 0 = omega arith in
-      sym (take-append-drop at d) ∙ (λ i. sym (append_nil (take at d)) i ++ drop (e i) d)
+      sym (take-append-drop at d) ∙ (λ i. sym (append-nil (take at d)) i ++ drop (e i) d)
 
   -- one row at its place, and the others behind it
   paste_more : (d : List A) (at : ℕ) (x : A) (l : List A) → at < length d → pasted (set d at x) (at + 1) l ≡ pasted d at (x ∷ l)

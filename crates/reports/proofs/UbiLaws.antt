@@ -3,7 +3,7 @@ use Prim.Native.Nat.{ℕ, zero, suc, ◌+◌, ◌≤◌, ◌<◌}
 use native.Mathlib.Omega.{arith}
 use mathlib.Core.Path.{◌≡◌, refl, ap, sym, ◌∙◌, subst}
 use mathlib.Core.Bool.{Bool, true, false, ◌&&◌}
-use mathlib.Core.List.{List, [], ◌∷◌, ◌++◌, map, foldl, append_nil}
+use mathlib.Core.List.{List, [], ◌∷◌, ◌++◌, map, foldl, append-nil}
 use mathlib.Core.Option.{Option, none, some}
 use lib.ListN.{length, take, drop, get_or, length-take, length-map}
 use lib.Seq.{length-take-le, get_or-take, get_or-drop}
@@ -79,7 +79,7 @@ unfolding see_at at_times
 see-times raw e [] = refl
 see-times raw e (t ∷ ts) =
     see-times raw (see_at raw e t) ts
-    ∙ ap (λ (x : Extremes). foldl see x (at_times raw ts)) (ap (foldl see e) (append_nil (keep_if (λ b. le_z b.time t && le_z t b.time) raw)))
+    ∙ ap (λ (x : Extremes). foldl see x (at_times raw ts)) (ap (foldl see e) (append-nil (keep_if (λ b. le_z b.time t && le_z t b.time) raw)))
     ∙ sym (fold_append e (keep_if (λ b. le_z b.time t && le_z t b.time) raw) (at_times raw ts))
 
 abbrev both : Bar → Bar → Extremes
@@ -171,7 +171,7 @@ module _ (u : MergedStore) (k n : ℕ) (h : SizedMerged u k) (few : n ≤ k) whe
   unfolding view
   scan_read s e =
       e
-      ∙ (λ i. scan_of (candles (append_nil (take n u.times) i) (append_nil (take n u.prices) i)))
+      ∙ (λ i. scan_of (candles (append-nil (take n u.times) i) (append-nil (take n u.prices) i)))
       ∙ ap scan_of
       (sym (ap (map candle_of) (merged-take n u)
       ∙ candles_are (take n u.times) (take n u.ids) (take n u.prices) (take n u.counts) (take n u.elements) (same u.ids u.times h.raw.ids h.raw.times)

@@ -1,7 +1,7 @@
 -- The bars of a store after every column was written alike: one law for each of set, take, drop and ++ on two lists joined place by place, and what follows
 -- for the stores. Assumes nothing.
 use Prim.Native.Nat.{ℕ, zero, suc, ◌+◌, ◌-◌, ◌<◌, ◌≤◌}
-use mathlib.Core.List.{List, [], ◌∷◌, ◌++◌, map, append_nil}
+use mathlib.Core.List.{List, [], ◌∷◌, ◌++◌, map, append-nil}
 use mathlib.Core.Path.{◌≡◌, refl, ap, sym, ◌∙◌}
 use native.Mathlib.Nat.{le_refl}
 use native.Mathlib.Numerals.{add-one}
@@ -102,7 +102,7 @@ module _ {A : Type 0} (lo : ℕ) (d : List A) where
   back_is : (r : List A) → back_in lo d r ≡ take lo d ++ r
   back_is r =
       let none : drop (length d - lo) (drop lo d) ≡ [] = drop_of_length-le (drop lo d) {i = length d - lo} (rw length-drop (le_refl (length d - lo))) in
-      rw (none, append_nil r)
+      rw (none, append-nil r)
 
   pub back-length : (r : List A) → lo ≤ length d → length r ≡ length (part_of lo d) → length (back_in lo d r) ≡ length d
   back-length r h e =

@@ -1,7 +1,7 @@
 -- A run of raw bars merged into the unfinished store one after the other, each found by its time. Assumes nothing.
 use Prim.Native.Nat.{ℕ, ◌+◌, ◌-◌, ◌<◌, ◌≤◌}
 use mathlib.Core.Bool.{Bool, true, false}
-use mathlib.Core.List.{List, [], ◌∷◌, ◌++◌, map, append_nil, append_assoc}
+use mathlib.Core.List.{List, [], ◌∷◌, ◌++◌, map, append-nil, append_assoc}
 use mathlib.Core.Option.{some}
 use mathlib.Core.Path.{◌≡◌, refl, ap, sym, ◌∙◌, subst}
 use native.Mathlib.Numerals.{add-one}
@@ -85,7 +85,7 @@ module _ (s : Stand) (m : RawStore) (h : RisingRaw s m) (t : ℤ) (p : ℕ) (pla
   none_by d =
       let q = kept-place in
       let n = kept-length in
-      append_nil (keep_if (timed (λ b. b.time) t) (kept_raw s m))
+      append-nil (keep_if (timed (λ b. b.time) t) (kept_raw s m))
       ∙ nameless (λ b. b.time) t (kept_raw s m) no_bar risen
       (λ a e. d (omega (arith, a)) (ap (λ (i : ℕ). (get_or (kept_raw s m) i no_bar).time) (sym q) ∙ e))
 
@@ -108,7 +108,7 @@ module _ (s : Stand) (m : RawStore) (h : RisingRaw s m) (t : ℤ) (p : ℕ) (pla
       let f : t ≡ (get_or (kept_raw s m) p no_bar).time = sym e ∙ q ∙ sym (kept-time a) in
       let sized = h.sized in
       let fits = h.fits in
-      append_nil (keep_if (timed (λ b. b.time) t) (kept_raw s m))
+      append-nil (keep_if (timed (λ b. b.time) t) (kept_raw s m))
       ∙ ap (λ (u : ℤ). keep_if (timed (λ b. b.time) u) (kept_raw s m)) f
       ∙ named (λ b. b.time) (kept_raw s m) p no_bar risen (rw kept-length a)
       ∙ ap (λ (b : Bar). b ∷ []) (get_or-take s.raw (raw_bars m) p no_bar a ∙ raw_at m p no_bar (record { times = omega arith; ids = omega arith; prices = omega arith }))
@@ -141,7 +141,7 @@ times_both : (raw : List Bar) (t : ℤ) (ts : List ℤ) (b : Bar) → at_times r
 unfolding at_times
 times_both raw t ts b =
     let k = keep_if (timed (λ b. b.time) t) raw in
-    ap (λ (x : List Bar). x ++ (at_times raw ts ++ b ∷ [])) (append_nil k) ∙ sym (append_assoc k (at_times raw ts) (b ∷ []))
+    ap (λ (x : List Bar). x ++ (at_times raw ts ++ b ∷ [])) (append-nil k) ∙ sym (append_assoc k (at_times raw ts) (b ∷ []))
 
 -- The stand v and the store w, while the bars of the times es and then b are still to be merged: v is s but for the number of unfinished bars, and what is
 -- left to merge gives the answer.

@@ -5,7 +5,7 @@ use native.Mathlib.Numerals.{add-one}
 use native.Mathlib.Omega.{arith}
 use mathlib.Core.Path.{◌≡◌, refl, ap, sym, ◌∙◌, subst}
 use mathlib.Core.Bool.{Bool, true, false, cond}
-use mathlib.Core.List.{List, [], ◌∷◌, ◌++◌, map, append_nil, append_assoc}
+use mathlib.Core.List.{List, [], ◌∷◌, ◌++◌, map, append-nil, append_assoc}
 use mathlib.Core.Option
 use mathlib.Core.Option.{Option, none, some, some-injective, none-ne-some}
 use lib.ListN.{length, take, drop, get_or, set, length-append, length-set, length-map, length-take, length-drop, get_or-map, take-append-drop}
@@ -170,7 +170,7 @@ module _ {A : Type 0} where
   unfolding pasted
   filled_end d l at n ans e f =
       sym (take-append-drop (at + n) l)
-      ∙ (λ i. (sym (append_nil (take (at + n) l)) ∙ f.front) i ++ (f.back ∙ ap (λ (k : ℕ). drop (at + k) d) e) i)
+      ∙ (λ i. (sym (append-nil (take (at + n) l)) ∙ f.front) i ++ (f.back ∙ ap (λ (k : ℕ). drop (at + k) d) e) i)
 
 -- the same of both columns: the fractals fs are to follow, and all of them are ans
 pub record Going (d : FractalStore) (at : ℕ) (s : Writing) (fs ans : List Fractal) : Type 0 where

@@ -1,7 +1,7 @@
 -- What the unfinished store holds after a writing step of a feed. Assumes nothing.
 use Prim.Native.Nat.{ℕ, suc, ◌+◌, ◌-◌, ◌<◌, ◌≤◌}
 use mathlib.Core.Bool.{Bool, true, false}
-use mathlib.Core.List.{List, [], ◌∷◌, ◌++◌, map, append_nil, append_assoc}
+use mathlib.Core.List.{List, [], ◌∷◌, ◌++◌, map, append-nil, append_assoc}
 use mathlib.Core.Option.{some}
 use mathlib.Core.Path.{◌≡◌, refl, ap, sym, ◌∙◌, subst}
 use native.Mathlib.Nat.{le_refl, zero-add}
@@ -208,7 +208,7 @@ module _ (lo at from i j n : ℕ) (to : lo + i ≡ at) (of : lo + j ≡ from) wh
       let p : drop j D ≡ drop from d = drop-drop j lo d ∙ ap (λ (y : ℕ). drop y d) of in
       let q : drop (i + n) D ≡ drop (at + n) d = drop-drop (i + n) lo d ∙ ap (λ (y : ℕ). drop y d) g in
       ap (λ (x : List A). take lo d ++ (r ++ x)) none
-      ∙ ap (λ (x : List A). take lo d ++ x) (append_nil r ∙ e ∙ ap (λ (x : List A). copied x i x j n) whole)
+      ∙ ap (λ (x : List A). take lo d ++ x) (append-nil r ∙ e ∙ ap (λ (x : List A). copied x i x j n) whole)
       ∙ (λ t. take lo d ++ (take i D ++ take n (p t) ++ q t))
       ∙ sym (append_assoc (take lo d) (take i D ++ take n (drop from d)) (drop (at + n) d))
       ∙ ap (λ (x : List A). x ++ drop (at + n) d) (sym (append_assoc (take lo d) (take i D) (take n (drop from d))))

@@ -4,7 +4,7 @@ use Prim.Native.Nat.{ℕ, zero, suc, ◌+◌, ◌≤◌, ◌<◌}
 use native.Mathlib.Omega.{arith}
 use mathlib.Core.Path.{◌≡◌, refl, ap, sym, ◌∙◌, subst}
 use mathlib.Core.Bool.{Bool, true, false}
-use mathlib.Core.List.{List, [], ◌∷◌, ◌++◌, append_nil}
+use mathlib.Core.List.{List, [], ◌∷◌, ◌++◌, append-nil}
 use lib.ListN.{length, take, drop, get_or, set}
 use lib.Dec.{T, eqb}
 use lib.Seq.{drop-cons, drop-length, take-suc-set, append_snoc}
@@ -53,4 +53,4 @@ states_turn run i d ys b all h k e =
 
 pub states_end : (run : List Summary) (ys : List Building) (b : Building) (all : List Building) → take (length run) ys ++ states_of b (drop (length run) run) ≡ all → take (length run) ys ≡ all
 unfolding states_of
-states_end run ys b all e = sym (ap (λ (l : List Summary). take (length run) ys ++ states_of b l) (drop-length run) ∙ append_nil (take (length run) ys)) ∙ e
+states_end run ys b all e = sym (ap (λ (l : List Summary). take (length run) ys ++ states_of b l) (drop-length run) ∙ append-nil (take (length run) ys)) ∙ e

@@ -1,0 +1,22 @@
+use native.Mathlib.Omega.{arith}
+use Rattle.check_bi.specs.Code.View.{view}
+use Rattle.check_bi.proofs.ScanWindows.{taken_timed}
+use Rattle.check_bi.proofs.scan.taken_in.Goals as goal
+
+pub candle_at-a-requires : goal.candle_at-a-requires
+candle_at-a-requires c = let p = c.requires in (p.0, p.1, p.2, p.3, omega (arith, p.5))
+
+pub overflow_add-i : goal.overflow_add-i
+overflow_add-i c = let p = c.requires in omega (arith, p.4, p.5)
+
+pub candle_at-b-requires : goal.candle_at-b-requires
+candle_at-b-requires c = let p = c.requires in (p.0, p.1, p.2, p.3, omega (arith, p.5))
+
+pub overflow_add-i-2 : goal.overflow_add-i-2
+overflow_add-i-2 c = let p = c.requires in omega (arith, p.4, p.5)
+
+pub candle_at-c-requires : goal.candle_at-c-requires
+candle_at-c-requires c = let p = c.requires in (p.0, p.1, p.2, p.3, p.5)
+
+pub returns : goal.returns
+returns c = let a = c.args in taken_timed (view a.n a.ps.now a.m a.qs.now) a.none a.k a.i _ _ _ _ c.is_taken.ensures (view a.n a.ts.now a.m a.us.now) c.candle_at-a.ensures c.candle_at-b.ensures c.candle_at-c.ensures

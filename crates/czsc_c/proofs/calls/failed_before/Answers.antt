@@ -1,0 +1,25 @@
+use Rattle.czsc_c.proofs.HandedLaws.{no_stand_lem, not_sound, no_place, none-failed}
+use Rattle.question4.specs.Question4.{question4}
+use Rattle.strokes.specs.declared.Stand.{Stand}
+use Rattle.strokes.proofs.PackedRows.{there}
+use borrow.Author.Tests.{not-true, not-false}
+use mathlib.Core.Path.{ap, sym, ◌∙◌}
+use Rattle.question4.proofs.is_sound.Reads as is-sound-reads
+use Rattle.strokes.proofs.rows_there.Reads as rows-there-reads
+use Rattle.strokes.proofs.unpack.Reads as unpack-reads
+use Rattle.czsc_c.proofs.calls.failed_before.Goals as goal
+
+pub returns-then-not-rows_there : goal.returns-then-not-rows_there
+returns-then-not-rows_there c = no_stand_lem c.args.numbers.now c.args.counts.now c.args.events.now (lent c.before.before.before.before) (sym c.rows_there.ensures ∙ not-true _ c.if-not-rows_there.true-raw)
+
+pub unpack-stand-requires : goal.unpack-stand-requires
+unpack-stand-requires c = there _ _ (sym c.rows_there.ensures ∙ not-false _ c.if-not-rows_there.false-raw)
+
+pub returns-then-not-is_sound : goal.returns-then-not-is_sound
+returns-then-not-is_sound c = not_sound c.args.numbers.now c.args.counts.now c.args.events.now (lent c.before.before.before.before.before.before.before) (sym c.rows_there.ensures ∙ not-false _ c.if-not-rows_there.false-raw) (ap (λ (s : Stand). question4 s (lent c.before.before.before.before.before.before.before)) (sym c.unpack-stand.ensures) ∙ sym c.is_sound.ensures ∙ not-true _ c.if-not-is_sound.true-raw)
+
+pub returns-then-events-lt1 : goal.returns-then-events-lt1
+returns-then-events-lt1 c = no_place c.args.numbers.now c.args.counts.now c.args.events.now (lent c.before.before.before.before.before.before.before.before) (sym c.rows_there.ensures ∙ not-false _ c.if-not-rows_there.false-raw) (ap (λ (s : Stand). question4 s (lent c.before.before.before.before.before.before.before.before)) (sym c.unpack-stand.ensures) ∙ sym c.is_sound.ensures ∙ not-false _ c.if-not-is_sound.false-raw) c.if-events-lt1.true
+
+pub returns : goal.returns
+returns c = none-failed c.args.numbers.now c.args.counts.now c.args.events.now (lent c.before.before.before.before.before.before.before.before) (sym c.rows_there.ensures ∙ not-false _ c.if-not-rows_there.false-raw) (ap (λ (s : Stand). question4 s (lent c.before.before.before.before.before.before.before.before)) (sym c.unpack-stand.ensures) ∙ sym c.is_sound.ensures ∙ not-false _ c.if-not-is_sound.false-raw) c.if-events-lt1.false

@@ -1,0 +1,18 @@
+use Rattle.czsc_c.proofs.HandedLaws.{first-refused, first_no-stand, first_no-place, first-passed}
+use borrow.Author.Tests.{not-true, not-false}
+use mathlib.Core.Path.{sym, ◌∙◌}
+use Rattle.sound.proofs.fresh.Reads as fresh-reads
+use Rattle.strokes.proofs.rows_there.Reads as rows-there-reads
+use Rattle.czsc_c.proofs.calls.failed_first.Goals as goal
+
+pub returns-then-failed-ne0 : goal.returns-then-failed-ne0
+returns-then-failed-ne0 c = first-refused c.fresh-r.result _ _ _ _ c.fresh-r.ensures c.if-failed-ne0.true
+
+pub returns-then-not-rows_there : goal.returns-then-not-rows_there
+returns-then-not-rows_there c = first_no-stand c.fresh-r.result _ _ _ _ c.fresh-r.ensures c.if-failed-ne0.false (sym c.rows_there.ensures ∙ not-true _ c.if-not-rows_there.true-raw)
+
+pub returns-then-sums-lt1 : goal.returns-then-sums-lt1
+returns-then-sums-lt1 c = first_no-place c.fresh-r.result _ _ _ _ c.fresh-r.ensures c.if-failed-ne0.false (sym c.rows_there.ensures ∙ not-false _ c.if-not-rows_there.false-raw) c.if-sums-lt1.true
+
+pub returns : goal.returns
+returns c = first-passed c.fresh-r.result _ _ _ _ c.fresh-r.ensures c.if-failed-ne0.false (sym c.rows_there.ensures ∙ not-false _ c.if-not-rows_there.false-raw) c.if-sums-lt1.false

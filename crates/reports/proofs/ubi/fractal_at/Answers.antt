@@ -1,0 +1,6 @@
+use Rattle.reports.specs.UbiAnswers.{three_bars}
+use Rattle.reports.proofs.ubi.fractal_at.Goals as goal
+
+pub returns : goal.returns
+unfolding three_bars
+returns c = λ i. three_bars c.args.mark (c.read_bar-left.ensures i) (c.read_bar-mid.ensures i) (c.read_bar-right.ensures i)

@@ -1,0 +1,11 @@
+use borrow.Author.Tests.{eq-eqb, ne_eqb}
+use Rattle.sound.specs.FreshStand.{or_default}
+use Rattle.sound.proofs.fresh_stand.or_default.Goals as goal
+
+pub returns-then-n-eq0 : goal.returns-then-n-eq0
+unfolding or_default
+returns-then-n-eq0 c = rw (eq-eqb _ _ c.if-n-eq0.true)
+
+pub returns : goal.returns
+unfolding or_default
+returns c = rw (ne_eqb _ _ c.if-n-eq0.false)

@@ -1,0 +1,17 @@
+use native.Mathlib.Omega.{arith}
+use mathlib.Core.Bool.{Bool}
+use mathlib.Core.Path.{ap, sym}
+use Rattle.strokes.specs.Code.BarSteps.{with_unfinished, without_last}
+use Rattle.writing.specs.Code.WriteSteps.{left_stand}
+use Rattle.writing.proofs.stroke_moves.left_with.Goals as goal
+
+pub overflow_sub-left : goal.overflow_sub-left
+overflow_sub-left c = let one = c.requires c.if-broken.true in omega arith
+
+pub returns-then-broken : goal.returns-then-broken
+unfolding with_unfinished without_last left_stand
+returns-then-broken c = let a = c.args in ap (λ (t : Bool). with_unfinished (left_stand t a.stand) a.n) (sym c.if-broken.true)
+
+pub returns : goal.returns
+unfolding with_unfinished without_last left_stand
+returns c = let a = c.args in ap (λ (t : Bool). with_unfinished (left_stand t a.stand) a.n) (sym c.if-broken.false)

@@ -1,0 +1,7 @@
+use borrow.Author.Rules.{rules}
+use Rattle.zones.specs.Code.StrokesRead.{summary_from}
+use Rattle.zones.proofs.reading.summary_from.Goals as goal
+
+pub returns : goal.returns
+unfolding summary_from
+returns c = rw (c.direction_of-direction.ensures, c.max-high.ensures, c.min-low.ensures) (search rules)

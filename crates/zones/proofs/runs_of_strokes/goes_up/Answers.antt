@@ -1,0 +1,10 @@
+use Rattle.zones.specs.BisUpDown.{goes_up}
+use Rattle.zones.proofs.runs_of_strokes.goes_up.Goals as goal
+
+pub returns-in-Up : goal.returns-in-Up
+unfolding goes_up
+returns-in-Up c = rw c.in-Up.is
+
+pub returns-in-Down : goal.returns-in-Down
+unfolding goes_up
+returns-in-Down c = rw c.in-Down.is

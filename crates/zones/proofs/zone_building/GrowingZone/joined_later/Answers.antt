@@ -1,0 +1,6 @@
+use Rattle.zones.specs.Code.GrowingZone.{joined_later}
+use Rattle.zones.proofs.zone_building.GrowingZone.joined_later.Goals as goal
+
+pub returns : goal.returns
+unfolding joined_later
+returns c = rw (c.max-gg.ensures, c.min-dd.ensures, c.later_with-later.ensures)
