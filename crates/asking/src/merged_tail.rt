@@ -7,7 +7,7 @@ ghost use Rattle.bars.specs.Code.MergedBars.{merge_bars, merge_bars_all};
 ghost use Rattle.check_bi.specs.Code.View.{view};
 ghost use Rattle.strokes.specs.Code.BarSteps.{merged_again};
 ghost use Rattle.asking.specs.Code.MergedTail.{CanTail, CanRun, HasTail, NamedRaw, CanMergeTail, bars_only};
-ghost use Rattle.stores.specs.Lent.{raw_held, raw_before, raw_after, merged_held, merged_before};
+ghost use Rattle.stores.specs.Lent.{raw_held, raw_before, raw_after, raw_lent, raw_seen, merged_lent, merged_seen};
 
 use bars::Bar;
 
@@ -29,9 +29,9 @@ fn merge_behind(
     m: usize,
     b: Bar,
 ) -> usize
-    requires fact_1 { CanTail (raw_held ut ui up) (raw_held tt ti tp) (length ut.now) (length tt.old) n m }
+    requires fact_1 { CanTail (raw_lent ut ui up) (raw_held tt ti tp) (length ut.now) (length tt.old) n m }
     requires fact_2 { (m ≡ 0 → n ≡ 0) }
-    ensures { HasTail (raw_before ut ui up) (raw_after tt ti tp) (length tt.old) n result (merge_bars (view n (raw_bars (raw_before ut ui up)) m (raw_bars (raw_before tt ti tp))) b) × (result ≤ m + 1) }
+    ensures { HasTail (raw_seen ut ui up) (raw_after tt ti tp) (length tt.old) n result (merge_bars (view n (raw_bars (raw_seen ut ui up)) m (raw_bars (raw_before tt ti tp))) b) × (result ≤ m + 1) }
 {
     if n == 0 {
         return stores::merge_into_tail(false, b, tt, ti, tp, m, b);
@@ -57,10 +57,10 @@ fn merge_named(
     m: usize,
     t: i64,
 ) -> usize
-    requires fact_1 { NamedRaw (raw_held rt ri rp) (length rt.now) raw }
-    requires fact_2 { CanTail (raw_held ut ui up) (raw_held tt ti tp) (length ut.now) (length tt.old) n m }
+    requires fact_1 { NamedRaw (raw_lent rt ri rp) (length rt.now) raw }
+    requires fact_2 { CanTail (raw_lent ut ui up) (raw_held tt ti tp) (length ut.now) (length tt.old) n m }
     requires fact_3 { (m ≡ 0 → n ≡ 0) }
-    ensures { HasTail (raw_before ut ui up) (raw_after tt ti tp) (length tt.old) n result (merge_bars_all (view n (raw_bars (raw_before ut ui up)) m (raw_bars (raw_before tt ti tp))) (at_times (take raw (raw_bars (raw_before rt ri rp))) (t ∷ []))) × (result ≤ m + 1) }
+    ensures { HasTail (raw_seen ut ui up) (raw_after tt ti tp) (length tt.old) n result (merge_bars_all (view n (raw_bars (raw_seen ut ui up)) m (raw_bars (raw_before tt ti tp))) (at_times (take raw (raw_bars (raw_seen rt ri rp))) (t ∷ []))) × (result ≤ m + 1) }
 {
     let p = stores::find_time(rt, raw, t);
     if p < raw {
@@ -83,8 +83,8 @@ fn start_tail(
     ti: &mut [i32],
     tp: &mut [[f64; 6]],
 ) -> TailAnswer
-    requires { CanTail (raw_held ut ui up) (raw_held tt ti tp) (length ut.now) (length tt.old) n 0 }
-    ensures { HasTail (raw_before ut ui up) (raw_after tt ti tp) (length tt.old) result.base result.rows (take n (raw_bars (raw_before ut ui up))) × (result.base ≤ n) × (result.rows ≤ 1) }
+    requires { CanTail (raw_lent ut ui up) (raw_held tt ti tp) (length ut.now) (length tt.old) n 0 }
+    ensures { HasTail (raw_seen ut ui up) (raw_after tt ti tp) (length tt.old) result.base result.rows (take n (raw_bars (raw_seen ut ui up))) × (result.base ≤ n) × (result.rows ≤ 1) }
 {
     if n == 0 {
         return TailAnswer { base: 0, rows: 0 };
@@ -106,8 +106,8 @@ pub fn tail_later(
     tp: &mut [[f64; 6]],
     b: Bar,
 ) -> TailAnswer
-    requires { CanTail (raw_held ut ui up) (raw_held tt ti tp) (length ut.now) (length tt.old) count 1 }
-    ensures { HasTail (raw_before ut ui up) (raw_after tt ti tp) (length tt.old) result.base result.rows (merge_bars (take count (raw_bars (raw_before ut ui up))) b) × (result.base ≤ count) × (result.rows ≤ 2) }
+    requires { CanTail (raw_lent ut ui up) (raw_held tt ti tp) (length ut.now) (length tt.old) count 1 }
+    ensures { HasTail (raw_seen ut ui up) (raw_after tt ti tp) (length tt.old) result.base result.rows (merge_bars (take count (raw_bars (raw_seen ut ui up))) b) × (result.base ≤ count) × (result.rows ≤ 2) }
 {
     let start = start_tail(ut, ui, up, count, tt, ti, tp);
     let base = start.base;
@@ -133,9 +133,9 @@ fn merge_elements(
     es: [i64; 101],
     old: usize,
 ) -> usize
-    requires fact_1 { NamedRaw (raw_held rt ri rp) (length rt.now) raw }
-    requires fact_2 { CanRun (raw_held ut ui up) (raw_held tt ti tp) (length ut.now) (length tt.old) n m old }
-    ensures { HasTail (raw_before ut ui up) (raw_after tt ti tp) (length tt.old) n result (merge_bars_all (view n (raw_bars (raw_before ut ui up)) m (raw_bars (raw_before tt ti tp))) (at_times (take raw (raw_bars (raw_before rt ri rp))) (take old es))) × (result ≤ m + old) }
+    requires fact_1 { NamedRaw (raw_lent rt ri rp) (length rt.now) raw }
+    requires fact_2 { CanRun (raw_lent ut ui up) (raw_held tt ti tp) (length ut.now) (length tt.old) n m old }
+    ensures { HasTail (raw_seen ut ui up) (raw_after tt ti tp) (length tt.old) n result (merge_bars_all (view n (raw_bars (raw_seen ut ui up)) m (raw_bars (raw_before tt ti tp))) (at_times (take raw (raw_bars (raw_seen rt ri rp))) (take old es))) × (result ≤ m + old) }
 {
     let mut rows = m;
     let mut i: usize = 0;
@@ -165,9 +165,9 @@ pub fn tail_again(
     tp: &mut [[f64; 6]],
     b: Bar,
 ) -> TailAnswer
-    requires fact_1 { NamedRaw (raw_held rt ri rp) (length rt.now) raw }
-    requires fact_2 { CanMergeTail (merged_held ut ui up uc ue) (raw_held tt ti tp) (length ut.now) count }
-    ensures { HasTail (raw_before ut ui up) (raw_after tt ti tp) 103 result.base result.rows (bars_only (merged_again (take raw (raw_bars (raw_before rt ri rp))) (take count (merged_bars (merged_before ut ui up uc ue))) b)) × (result.base ≤ count) }
+    requires fact_1 { NamedRaw (raw_lent rt ri rp) (length rt.now) raw }
+    requires fact_2 { CanMergeTail (merged_lent ut ui up uc ue) (raw_held tt ti tp) (length ut.now) count }
+    ensures { HasTail (raw_seen ut ui up) (raw_after tt ti tp) 103 result.base result.rows (bars_only (merged_again (take raw (raw_bars (raw_seen rt ri rp))) (take count (merged_bars (merged_seen ut ui up uc ue))) b)) × (result.base ≤ count) }
 {
     let at = count - 1;
     let newest = stores::read_new_bar(ut, ui, up, uc, ue, at);

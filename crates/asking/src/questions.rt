@@ -8,12 +8,12 @@ ghost use Rattle.stores.specs.Code.StoreRows.{SizedRaw};
 ghost use Rattle.check_bi.specs.Code.View.{view, candles};
 ghost use Rattle.check_bi.specs.Code.Windows.{NoFractals};
 ghost use Rattle.strokes.specs.StateRead.{settings_of, state_of};
-ghost use Rattle.strokes.specs.Lent.{held, before};
+ghost use Rattle.strokes.specs.Lent.{before, stores_lent, stores_seen};
 ghost use Rattle.sound.specs.StandSound.{IsSound};
 ghost use Rattle.asking.specs.Code.FeedPlan.{plan_of, InView};
 ghost use Rattle.asking.specs.Code.Asked.{AskedOf};
 ghost use Rattle.asking.specs.Code.AskSteps.{early_by, EarlyOf, mark_for, last_in, HasLast, InColumns, CanPlan, TriedWith, CanTry, TriedOf};
-ghost use Rattle.stores.specs.Lent.{raw_held, raw_before, merged_held, merged_before};
+ghost use Rattle.stores.specs.Lent.{raw_lent, raw_seen, merged_lent, merged_seen};
 
 use crate::merged_tail::{tail_again, tail_later};
 use crate::plan::{Last, Plan, no_plan, plan_of, refused};
@@ -62,9 +62,9 @@ fn room_for(q: u64, later: bool, count: usize, room: usize) -> u64
 
 // Questions 5 to 10, where the first `count` raw bars are kept and `room` fit.
 fn ask_early(rt: &[i64], ri: &[i32], rp: &[[f64; 6]], count: usize, room: usize, b: Bar) -> Early
-    requires fact_1 { SizedRaw (raw_held rt ri rp) (length rt.now) }
+    requires fact_1 { SizedRaw (raw_lent rt ri rp) (length rt.now) }
     requires fact_2 { count ≤ length rt.now }
-    ensures { EarlyOf (last (take count (raw_bars (raw_before rt ri rp)))) count room b result }
+    ensures { EarlyOf (last (take count (raw_bars (raw_seen rt ri rp)))) count room b result }
 {
     if count == 0 {
         let q = bars::question_of_bar(b);
@@ -156,9 +156,9 @@ fn try_later(
     used: usize,
     clear: usize,
 ) -> Tried
-    requires fact_1 { CanPlan stand (raw_held ut ui up) st.now fp.now used }
+    requires fact_1 { CanPlan stand (raw_lent ut ui up) st.now fp.now used }
     requires fact_2 { NoFractals up.now clear }
-    ensures { TriedWith stand (merge_bars (take stand.unfinished (raw_bars (raw_before ut ui up))) b) st.now fp.now result }
+    ensures { TriedWith stand (merge_bars (take stand.unfinished (raw_bars (raw_seen ut ui up))) b) st.now fp.now result }
 {
     let mut tt = [0i64; 3];
     let mut ti = [0i32; 3];
@@ -189,9 +189,9 @@ fn try_again(
     used: usize,
     clear: usize,
 ) -> Tried
-    requires fact_1 { CanTry false stand (raw_held rt ri rp) (merged_held ut ui up uc ue) st.now fp.now used }
+    requires fact_1 { CanTry false stand (raw_lent rt ri rp) (merged_lent ut ui up uc ue) st.now fp.now used }
     requires fact_2 { NoFractals up.now clear }
-    ensures { TriedOf false stand (raw_before rt ri rp) (merged_before ut ui up uc ue) st.now fp.now b result }
+    ensures { TriedOf false stand (raw_seen rt ri rp) (merged_seen ut ui up uc ue) st.now fp.now b result }
 {
     let mut tt = [0i64; 103];
     let mut ti = [0i32; 103];
@@ -226,9 +226,9 @@ fn try_bar(
     used: usize,
     clear: usize,
 ) -> Tried
-    requires fact_1 { CanTry later stand (raw_held rt ri rp) (merged_held ut ui up uc ue) st.now fp.now used }
+    requires fact_1 { CanTry later stand (raw_lent rt ri rp) (merged_lent ut ui up uc ue) st.now fp.now used }
     requires fact_2 { NoFractals up.now clear }
-    ensures { TriedOf later stand (raw_before rt ri rp) (merged_before ut ui up uc ue) st.now fp.now b result }
+    ensures { TriedOf later stand (raw_seen rt ri rp) (merged_seen ut ui up uc ue) st.now fp.now b result }
 {
     if later {
         return try_later(stand, ut, ui, up, st, fp, b, used, clear);
@@ -259,9 +259,9 @@ pub fn ask(
     b: Bar,
     clear: usize,
 ) -> Asked
-    requires fact_1 { IsSound stand (held rt ri rp ut ui up uc ue st si sp sc se fs fp) }
+    requires fact_1 { IsSound stand (stores_lent rt ri rp ut ui up uc ue st si sp sc se fs fp) }
     requires fact_2 { NoFractals up.now clear }
-    ensures { AskedOf (settings_of stand) (state_of stand (before rt ri rp ut ui up uc ue st si sp sc se fs fp)) b result }
+    ensures { AskedOf (settings_of stand) (state_of stand (stores_seen rt ri rp ut ui up uc ue st si sp sc se fs fp)) b result }
 {
     let rooms = stand.rooms;
     let count = stand.raw;

@@ -8,7 +8,7 @@ ghost use Rattle.feed.specs.PortCalls.{FeedIs};
 ghost use Rattle.from_fresh.specs.FromFresh.{FromFresh};
 ghost use Rattle.batch.specs.BatchCalls.{BatchIs, BatchFed};
 ghost use Rattle.batch.specs.Code.BatchSteps.{CanBatch, CanAdvance, advanced, left_of};
-ghost use Rattle.stores.specs.Lent.{raw_held, raw_before};
+ghost use Rattle.stores.specs.Lent.{raw_lent, raw_seen};
 
 use bars::Bar;
 use feed::FeedAnswer;
@@ -87,9 +87,9 @@ fn feed_next(
     clear: usize,
 ) -> FeedAnswer
     requires fact_1 { FromFresh stand (held rt ri rp ut ui up uc ue st si sp sc se fs fp) }
-    requires fact_2 { RoomRaw (raw_held bt bi bp) (at + 1) }
+    requires fact_2 { RoomRaw (raw_lent bt bi bp) (at + 1) }
     requires fact_3 { NoFractals up.old clear }
-    ensures { FeedIs stand (before rt ri rp ut ui up uc ue st si sp sc se fs fp) (bar_at (raw_before bt bi bp) at) result.failed result.made result.broken result.shed result.stand (after rt ri rp ut ui up uc ue st si sp sc se fs fp) }
+    ensures { FeedIs stand (before rt ri rp ut ui up uc ue st si sp sc se fs fp) (bar_at (raw_seen bt bi bp) at) result.failed result.made result.broken result.shed result.stand (after rt ri rp ut ui up uc ue st si sp sc se fs fp) }
 {
     let b = stores::read_bar(bt, bi, bp, at);
     update_from_fresh(
@@ -134,8 +134,8 @@ fn feed_from(
     bp: &[[f64; 6]],
     n: usize,
 ) -> BatchAnswer
-    requires { CanBatch stand (held rt ri rp ut ui up uc ue st si sp sc se fs fp) (raw_held bt bi bp) n }
-    ensures { BatchFed stand (before rt ri rp ut ui up uc ue st si sp sc se fs fp) (raw_bars (raw_before bt bi bp)) result (after rt ri rp ut ui up uc ue st si sp sc se fs fp) }
+    requires { CanBatch stand (held rt ri rp ut ui up uc ue st si sp sc se fs fp) (raw_lent bt bi bp) n }
+    ensures { BatchFed stand (before rt ri rp ut ui up uc ue st si sp sc se fs fp) (raw_bars (raw_seen bt bi bp)) result (after rt ri rp ut ui up uc ue st si sp sc se fs fp) }
 {
     let mut kept = stand;
     let mut r = Sums {
@@ -216,7 +216,7 @@ pub fn feed_all(
     bi: &[i32],
     bp: &[[f64; 6]],
 ) -> BatchAnswer
-    ensures { BatchIs minimum most power ratio (before rt ri rp ut ui up uc ue st si sp sc se fs fp) (raw_bars (raw_before bt bi bp)) result (after rt ri rp ut ui up uc ue st si sp sc se fs fp) }
+    ensures { BatchIs minimum most power ratio (before rt ri rp ut ui up uc ue st si sp sc se fs fp) (raw_bars (raw_seen bt bi bp)) result (after rt ri rp ut ui up uc ue st si sp sc se fs fp) }
 {
     let a = sound::fresh(
         minimum, most, power, ratio, rt, ri, rp, ut, ui, up, uc, ue, st, si, sp, sc, se, fs, fp,

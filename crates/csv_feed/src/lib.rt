@@ -2,7 +2,7 @@
 #![tactic(auto)]
 
 ghost use Rattle.std.specs.Prelude.{◌≡◌};
-ghost use Rattle.strokes.specs.Lent.{before, after};
+ghost use Rattle.strokes.specs.Lent.{before, after, stores_seen};
 ghost use Rattle.machine.specs.FeedQuestions.{or_else};
 ghost use Rattle.question4.specs.Question4.{question4};
 ghost use Rattle.feed.specs.PortClaims.{PortDemand3};
@@ -45,7 +45,7 @@ fn failed_first(
     fp: &[[f64; 18]],
     number: u64,
 ) -> u64
-    ensures { result ≡ or_else (question4 stand (before rt ri rp ut ui up uc ue st si sp sc se fs fp)) 4 number }
+    ensures { result ≡ or_else (question4 stand (stores_seen rt ri rp ut ui up uc ue st si sp sc se fs fp)) 4 number }
 {
     if question4::is_sound(
         stand, rt, ri, rp, ut, ui, up, uc, ue, st, si, sp, sc, se, fs, fp,

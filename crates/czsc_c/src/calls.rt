@@ -2,8 +2,8 @@
 // stand and sums whatever it answers. Rows that are missing are answered by a number too: 4 where no stand can be read, 14 where an answer has no place.
 ghost use Rattle.std.specs.Prelude.{◌≡◌, ◌≤◌, length};
 ghost use Rattle.stores.specs.Stores.{raw_bars};
-ghost use Rattle.stores.specs.Lent.{raw_before};
-ghost use Rattle.strokes.specs.Lent.{held, before, after};
+ghost use Rattle.stores.specs.Lent.{raw_seen};
+ghost use Rattle.strokes.specs.Lent.{held, before, after, stores_seen};
 ghost use Rattle.strokes.specs.Packed.{packed};
 ghost use Rattle.sound.specs.StandSound.{IsSound};
 ghost use Rattle.sound.specs.FreshStand.{fresh_of};
@@ -39,7 +39,7 @@ pub extern "C" fn czsc_fresh(
     fs: &[[i64; 6]],
     fp: &[[f64; 18]],
 ) -> u64
-    ensures { stand_handed result numbers.new counts.new ≡ fresh_handed (fresh_of minimum most power ratio (before rt ri rp ut ui up uc ue st si sp sc se fs fp)) numbers.old counts.old }
+    ensures { stand_handed result numbers.new counts.new ≡ fresh_handed (fresh_of minimum most power ratio (stores_seen rt ri rp ut ui up uc ue st si sp sc se fs fp)) numbers.old counts.old }
 {
     let r = sound::fresh(
         minimum, most, power, ratio, rt, ri, rp, ut, ui, up, uc, ue, st, si, sp, sc, se, fs, fp,
@@ -77,7 +77,7 @@ fn failed_before(
     fs: &[[i64; 6]],
     fp: &[[f64; 18]],
 ) -> u64
-    ensures { result ≡ failed_before numbers.now counts.now events.now (before rt ri rp ut ui up uc ue st si sp sc se fs fp) }
+    ensures { result ≡ failed_before numbers.now counts.now events.now (stores_seen rt ri rp ut ui up uc ue st si sp sc se fs fp) }
 {
     if !rows_there(numbers, counts) {
         return 4;
@@ -205,7 +205,7 @@ fn failed_first(
     fs: &[[i64; 6]],
     fp: &[[f64; 18]],
 ) -> u64
-    ensures { result ≡ failed_first (fresh_of minimum most power ratio (before rt ri rp ut ui up uc ue st si sp sc se fs fp)) numbers.now counts.now sums.now }
+    ensures { result ≡ failed_first (fresh_of minimum most power ratio (stores_seen rt ri rp ut ui up uc ue st si sp sc se fs fp)) numbers.now counts.now sums.now }
 {
     let r = sound::fresh(
         minimum, most, power, ratio, rt, ri, rp, ut, ui, up, uc, ue, st, si, sp, sc, se, fs, fp,
@@ -252,7 +252,7 @@ fn feed_packed(
     bp: &[[f64; 6]],
 ) -> u64
     requires { (1 ≤ length numbers.old) × (2 ≤ length counts.old) × (1 ≤ length sums.old) }
-    ensures { SumsHanded minimum most power ratio numbers.old counts.old sums.old (before rt ri rp ut ui up uc ue st si sp sc se fs fp) (raw_bars (raw_before bt bi bp)) result numbers.new counts.new sums.new (after rt ri rp ut ui up uc ue st si sp sc se fs fp) }
+    ensures { SumsHanded minimum most power ratio numbers.old counts.old sums.old (before rt ri rp ut ui up uc ue st si sp sc se fs fp) (raw_bars (raw_seen bt bi bp)) result numbers.new counts.new sums.new (after rt ri rp ut ui up uc ue st si sp sc se fs fp) }
 {
     let r = batch::feed_all(
         minimum, most, power, ratio, rt, ri, rp, ut, ui, up, uc, ue, st, si, sp, sc, se, fs, fp,
@@ -290,7 +290,7 @@ pub extern "C" fn czsc_feed_all(
     bi: &[i32],
     bp: &[[f64; 6]],
 ) -> u64
-    ensures { BatchHanded minimum most power ratio numbers.old counts.old sums.old (before rt ri rp ut ui up uc ue st si sp sc se fs fp) (raw_bars (raw_before bt bi bp)) result numbers.new counts.new sums.new (after rt ri rp ut ui up uc ue st si sp sc se fs fp) }
+    ensures { BatchHanded minimum most power ratio numbers.old counts.old sums.old (before rt ri rp ut ui up uc ue st si sp sc se fs fp) (raw_bars (raw_seen bt bi bp)) result numbers.new counts.new sums.new (after rt ri rp ut ui up uc ue st si sp sc se fs fp) }
 {
     let failed = failed_first(
         minimum, most, power, ratio, numbers, counts, sums, rt, ri, rp, ut, ui, up, uc, ue, st, si,

@@ -1,7 +1,7 @@
 // The fractal in a row of the fractals' columns: its mark, and its middle bar.
 ghost use Rattle.std.specs.Prelude.{◌≡◌, [], ◌<◌, length, get_or};
 ghost use Rattle.strokes.specs.FractalRows.{row_mark};
-ghost use Rattle.strokes.specs.Lent.{fractals_before};
+ghost use Rattle.strokes.specs.Lent.{fractals_seen};
 ghost use Rattle.named.specs.Code.NamedRows.{middle_at};
 
 use check_bi::Candle;
@@ -20,7 +20,7 @@ pub fn mark_at(fp: &[[f64; 18]], i: usize) -> Mark
 // The middle bar of the fractal in a row.
 pub fn middle_at(fs: &[[i64; 6]], fp: &[[f64; 18]], i: usize) -> Candle
     requires { (i < length fs.now) × (i < length fp.now) }
-    ensures { result ≡ middle_at (fractals_before fs fp) i }
+    ensures { result ≡ middle_at (fractals_seen fs fp) i }
 {
     let t = fs[i];
     let p = fp[i];

@@ -2,7 +2,7 @@
 #![tactic(auto)]
 
 ghost use Rattle.std.specs.Prelude.{◌≡◌};
-ghost use Rattle.strokes.specs.Lent.{before};
+ghost use Rattle.strokes.specs.Lent.{stores_seen};
 ghost use Rattle.question4.specs.Question4.{question4};
 
 use strokes::Stand;
@@ -26,7 +26,7 @@ pub fn is_sound(
     fs: &[[i64; 6]],
     fp: &[[f64; 18]],
 ) -> bool
-    ensures { result ≡ question4 stand (before rt ri rp ut ui up uc ue st si sp sc se fs fp) }
+    ensures { result ≡ question4 stand (stores_seen rt ri rp ut ui up uc ue st si sp sc se fs fp) }
 {
     sound::stores_sound(
         stand, rt, ri, rp, ut, ui, up, uc, ue, st, si, sp, sc, se, fs, fp,

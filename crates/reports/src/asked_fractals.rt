@@ -2,7 +2,7 @@
 // unfinished bars' fractals.
 ghost use Rattle.std.specs.Prelude.{◌≡◌, [], ◌+◌, ◌≤◌, ◌<◌, length, get_or};
 ghost use Rattle.strokes.specs.StateRead.{row_fractal, state_of};
-ghost use Rattle.strokes.specs.Lent.{before};
+ghost use Rattle.strokes.specs.Lent.{stores_seen};
 ghost use Rattle.reports.specs.FractalAnswers.{answers_of};
 ghost use Rattle.named.specs.Code.NamedRows.{RowsStand};
 ghost use Rattle.named.specs.ReportQuestions.{fractal_at, unfinished_at};
@@ -71,7 +71,7 @@ pub fn stroke_fractal_answers(
     stroke: usize,
     place: usize,
 ) -> FractalAnswer
-    ensures { (result ≡ stroke_answers_at stand (before rt ri rp ut ui up uc ue st si sp sc se fs fp) stroke place) × StrengthAnswered (fractal_at (state_of stand (before rt ri rp ut ui up uc ue st si sp sc se fs fp)).strokes stroke place) result }
+    ensures { (result ≡ stroke_answers_at stand (stores_seen rt ri rp ut ui up uc ue st si sp sc se fs fp) stroke place) × StrengthAnswered (fractal_at (state_of stand (stores_seen rt ri rp ut ui up uc ue st si sp sc se fs fp)).strokes stroke place) result }
 {
     if !question4::is_sound(
         stand, rt, ri, rp, ut, ui, up, uc, ue, st, si, sp, sc, se, fs, fp,
@@ -117,7 +117,7 @@ pub fn unfinished_fractal_answers(
     fp: &[[f64; 18]],
     place: usize,
 ) -> FractalAnswer
-    ensures { (result ≡ unfinished_answers_at stand (before rt ri rp ut ui up uc ue st si sp sc se fs fp) place) × StrengthAnswered (unfinished_at (state_of stand (before rt ri rp ut ui up uc ue st si sp sc se fs fp)).unfinished place) result }
+    ensures { (result ≡ unfinished_answers_at stand (stores_seen rt ri rp ut ui up uc ue st si sp sc se fs fp) place) × StrengthAnswered (unfinished_at (state_of stand (stores_seen rt ri rp ut ui up uc ue st si sp sc se fs fp)).unfinished place) result }
 {
     if !question4::is_sound(
         stand, rt, ri, rp, ut, ui, up, uc, ue, st, si, sp, sc, se, fs, fp,

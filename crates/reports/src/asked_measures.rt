@@ -3,7 +3,7 @@ ghost use Rattle.std.specs.Prelude.{◌≡◌, List, ◌≤◌, length, take, T}
 ghost use Rattle.arith.specs.SlopeDivisor.{ExactDivisor};
 ghost use Rattle.bars.specs.declared.Bar.{Bar as BarOf};
 ghost use Rattle.stores.specs.Code.StoreRows.{rising};
-ghost use Rattle.strokes.specs.Lent.{before};
+ghost use Rattle.strokes.specs.Lent.{before, stores_seen};
 ghost use Rattle.machine.specs.Strokes.{Stroke};
 ghost use Rattle.sound.specs.Code.SoundStand.{named_rows};
 ghost use Rattle.reports.specs.Measures.{measures_of};
@@ -124,7 +124,7 @@ pub fn measures_at(
     fp: &[[f64; 18]],
     place: usize,
 ) -> MeasuresAnswer
-    ensures { (result ≡ measures_at stand (before rt ri rp ut ui up uc ue st si sp sc se fs fp) place) × ExactDivisor }
+    ensures { (result ≡ measures_at stand (stores_seen rt ri rp ut ui up uc ue st si sp sc se fs fp) place) × ExactDivisor }
 {
     if !question4::is_sound(
         stand, rt, ri, rp, ut, ui, up, uc, ue, st, si, sp, sc, se, fs, fp,

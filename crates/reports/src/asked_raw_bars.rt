@@ -3,13 +3,13 @@ ghost use Rattle.std.specs.Prelude.{◌≡◌, ◌+◌, ◌<◌, ◌≤◌, leng
 ghost use mathlib.Core.List.{map, foldl};
 ghost use Rattle.bars.specs.Lists.{every};
 ghost use Rattle.stores.specs.Code.StoreRows.{RoomRaw, set_bar};
-ghost use Rattle.strokes.specs.Lent.{before};
+ghost use Rattle.strokes.specs.Lent.{stores_seen};
 ghost use Rattle.sound.specs.Code.SoundStand.{is_time, named_rows};
 ghost use Rattle.reports.specs.Code.ElementPrices.{elements_in};
 ghost use Rattle.named.specs.Code.NamedRows.{inner_rows};
 ghost use Rattle.reports.specs.InnerRawBars.{put_bars, listed, refused_by, list_bars, raw_bars_at};
 ghost use Rattle.reports.specs.Code.InnerRawSteps.{CanFind, named_bar, filling, put_named, CanList};
-ghost use Rattle.stores.specs.Lent.{raw_held, raw_before, raw_after};
+ghost use Rattle.stores.specs.Lent.{raw_held, raw_before, raw_after, raw_lent, raw_seen};
 
 use super::measures;
 use named::StrokeRows;
@@ -66,11 +66,11 @@ fn put_named(
     op: &mut [[f64; 6]],
     at: usize,
 )
-    requires fact_1 { CanFind (raw_held rt ri rp) n }
+    requires fact_1 { CanFind (raw_lent rt ri rp) n }
     requires fact_2 { j < length row.now }
     requires fact_3 { T (is_time (take n rt.now) (get_or row.now j (pos 0))) }
     requires fact_4 { RoomRaw (raw_held ot oi op) (at + 1) }
-    ensures { raw_after ot oi op ≡ set_bar (raw_before ot oi op) at (named_bar (raw_before rt ri rp) n (get_or row.now j (pos 0))) }
+    ensures { raw_after ot oi op ≡ set_bar (raw_before ot oi op) at (named_bar (raw_seen rt ri rp) n (get_or row.now j (pos 0))) }
 {
     let t = row[j];
     let i = stores::find_time(rt, n, t);
@@ -91,10 +91,10 @@ fn put_row(
     op: &mut [[f64; 6]],
     at: usize,
 ) -> usize
-    requires fact_1 { CanFind (raw_held rt ri rp) n }
+    requires fact_1 { CanFind (raw_lent rt ri rp) n }
     requires fact_2 { T (every (is_time (take n rt.now)) (take count row.now)) }
     requires fact_3 { RoomRaw (raw_held ot oi op) (at + length (take count row.now)) }
-    ensures { filling ot.new oi.new op.new result ≡ foldl (put_named (raw_before rt ri rp) n) (filling ot.old oi.old op.old at) (take count row.now) }
+    ensures { filling ot.new oi.new op.new result ≡ foldl (put_named (raw_seen rt ri rp) n) (filling ot.old oi.old op.old at) (take count row.now) }
 {
     let m = measures::shorter(count, row.len());
     let mut k = at;
@@ -119,11 +119,11 @@ fn put_rows(
     oi: &mut [i32],
     op: &mut [[f64; 6]],
 )
-    requires fact_1 { CanFind (raw_held rt ri rp) n }
+    requires fact_1 { CanFind (raw_lent rt ri rp) n }
     requires fact_2 { length cs.now ≡ length es.now }
     requires fact_3 { T (named_rows (take n rt.now) cs.now es.now) }
     requires fact_4 { RoomRaw (raw_held ot oi op) (length (elements_in cs.now es.now)) }
-    ensures { raw_after ot oi op ≡ put_bars (raw_before ot oi op) 0 (map (named_bar (raw_before rt ri rp) n) (elements_in cs.now es.now)) }
+    ensures { raw_after ot oi op ≡ put_bars (raw_before ot oi op) 0 (map (named_bar (raw_seen rt ri rp) n) (elements_in cs.now es.now)) }
 {
     let mut k: usize = 0;
     let mut i: usize = 0;
@@ -145,10 +145,10 @@ fn list_rows(
     oi: &mut [i32],
     op: &mut [[f64; 6]],
 ) -> RawBarsAnswer
-    requires fact_1 { CanFind (raw_held rt ri rp) n }
+    requires fact_1 { CanFind (raw_lent rt ri rp) n }
     requires fact_2 { (length cs.now ≡ length es.now) × (length cs.now ≤ 65536) }
     requires fact_3 { T (named_rows (take n rt.now) cs.now es.now) }
-    ensures { listed result ot.new oi.new op.new ≡ list_bars (map (named_bar (raw_before rt ri rp) n) (elements_in cs.now es.now)) (raw_before ot oi op) }
+    ensures { listed result ot.new oi.new op.new ≡ list_bars (map (named_bar (raw_seen rt ri rp) n) (elements_in cs.now es.now)) (raw_before ot oi op) }
 {
     let m = count_elements(cs, es);
     if ot.len() < m {
@@ -180,8 +180,8 @@ fn bars_in(
     oi: &mut [i32],
     op: &mut [[f64; 6]],
 ) -> RawBarsAnswer
-    requires { CanList rows n (raw_held rt ri rp) sc.now se.now }
-    ensures { listed result ot.new oi.new op.new ≡ list_bars (map (named_bar (raw_before rt ri rp) n) (elements_in (inner_rows rows sc.now) (inner_rows rows se.now))) (raw_before ot oi op) }
+    requires { CanList rows n (raw_lent rt ri rp) sc.now se.now }
+    ensures { listed result ot.new oi.new op.new ≡ list_bars (map (named_bar (raw_seen rt ri rp) n) (elements_in (inner_rows rows sc.now) (inner_rows rows se.now))) (raw_before ot oi op) }
 {
     let first = rows.first;
     let bars = rows.bars;
@@ -214,7 +214,7 @@ pub fn raw_bars(
     oi: &mut [i32],
     op: &mut [[f64; 6]],
 ) -> RawBarsAnswer
-    ensures { listed result ot.new oi.new op.new ≡ raw_bars_at stand (before rt ri rp ut ui up uc ue st si sp sc se fs fp) place (raw_before ot oi op) }
+    ensures { listed result ot.new oi.new op.new ≡ raw_bars_at stand (stores_seen rt ri rp ut ui up uc ue st si sp sc se fs fp) place (raw_before ot oi op) }
 {
     if !question4::is_sound(
         stand, rt, ri, rp, ut, ui, up, uc, ue, st, si, sp, sc, se, fs, fp,

@@ -3,7 +3,7 @@
 ghost use Rattle.std.specs.Prelude.{◌≡◌, map, ◌≤◌, length, take, get_or};
 ghost use Rattle.std.specs.Float.{nan};
 ghost use Rattle.strokes.specs.StateRead.{state_of};
-ghost use Rattle.strokes.specs.Lent.{held, before};
+ghost use Rattle.strokes.specs.Lent.{stores_lent, stores_seen};
 ghost use Rattle.sound.specs.StandSound.{IsSound};
 ghost use Rattle.named.specs.Folds.{greatest, least};
 ghost use Rattle.reports.specs.FractalList.{get_finished_bis, last_bi_extend};
@@ -105,8 +105,8 @@ fn last_extends(
     fs: &[[i64; 6]],
     fp: &[[f64; 18]],
 ) -> bool
-    requires { IsSound stand (held rt ri rp ut ui up uc ue st si sp sc se fs fp) }
-    ensures { result ≡ last_bi_extend (state_of stand (before rt ri rp ut ui up uc ue st si sp sc se fs fp)).strokes (state_of stand (before rt ri rp ut ui up uc ue st si sp sc se fs fp)).unfinished }
+    requires { IsSound stand (stores_lent rt ri rp ut ui up uc ue st si sp sc se fs fp) }
+    ensures { result ≡ last_bi_extend (state_of stand (stores_seen rt ri rp ut ui up uc ue st si sp sc se fs fp)).strokes (state_of stand (stores_seen rt ri rp ut ui up uc ue st si sp sc se fs fp)).unfinished }
 {
     let k = kept(stand);
     let n = stand.unfinished;
@@ -143,8 +143,8 @@ pub fn get_finished_bis(
     fs: &[[i64; 6]],
     fp: &[[f64; 18]],
 ) -> FinishedBis
-    ensures value { result ≡ finished_answer stand (before rt ri rp ut ui up uc ue st si sp sc se fs fp) }
-    ensures count_value { result.failed ≡ 0 → run_of (state_of stand (before rt ri rp ut ui up uc ue st si sp sc se fs fp)).strokes 0 result.count ≡ get_finished_bis (state_of stand (before rt ri rp ut ui up uc ue st si sp sc se fs fp)).strokes (state_of stand (before rt ri rp ut ui up uc ue st si sp sc se fs fp)).unfinished }
+    ensures value { result ≡ finished_answer stand (stores_seen rt ri rp ut ui up uc ue st si sp sc se fs fp) }
+    ensures count_value { result.failed ≡ 0 → run_of (state_of stand (stores_seen rt ri rp ut ui up uc ue st si sp sc se fs fp)).strokes 0 result.count ≡ get_finished_bis (state_of stand (stores_seen rt ri rp ut ui up uc ue st si sp sc se fs fp)).strokes (state_of stand (stores_seen rt ri rp ut ui up uc ue st si sp sc se fs fp)).unfinished }
 {
     let k = kept(stand);
     let n = stand.unfinished;
@@ -178,7 +178,7 @@ pub fn last_bi_extend(
     fs: &[[i64; 6]],
     fp: &[[f64; 18]],
 ) -> LastBiExtend
-    ensures { result ≡ extend_answer stand (before rt ri rp ut ui up uc ue st si sp sc se fs fp) }
+    ensures { result ≡ extend_answer stand (stores_seen rt ri rp ut ui up uc ue st si sp sc se fs fp) }
 {
     if !question4::is_sound(
         stand, rt, ri, rp, ut, ui, up, uc, ue, st, si, sp, sc, se, fs, fp,

@@ -4,13 +4,13 @@
 ghost use Rattle.std.specs.Prelude.{◌≡◌, true};
 ghost use Rattle.std.proofs.Math.Option.{none};
 ghost use Rattle.strokes.specs.StateRead.{state_of};
-ghost use Rattle.strokes.specs.Lent.{fractals_held, fractals_before, fractals_after, before};
+ghost use Rattle.strokes.specs.Lent.{fractals_before, fractals_after, before, fractals_lent, fractals_seen, stores_seen};
 ghost use Rattle.question4.specs.Question4.{question4};
 ghost use Rattle.reports.specs.FractalList.{later_than};
 ghost use Rattle.reports.specs.Code.FxListing.{listing, step_all, CanList};
 ghost use Rattle.reports.specs.FxAnswers.{FxDone, fx_list_of};
 ghost use Rattle.reports.specs.Code.FxRows.{all_rows, CanGo};
-ghost use Rattle.stores.specs.Lent.{raw_held, raw_before};
+ghost use Rattle.stores.specs.Lent.{raw_lent, raw_seen};
 
 use super::fx_list::{Listed, step_strokes};
 use super::fx_windows::step_windows;
@@ -39,9 +39,9 @@ fn step_all(
     fs: &[[i64; 6]],
     fp: &[[f64; 18]],
 ) -> Listed
-    requires fact_1 { CanGo stand (raw_held ut ui up) (fractals_held fs fp) }
-    requires fact_2 { CanList write (listing os.old op.old s) (all_rows stand (raw_held ut ui up) (fractals_held fs fp)) }
-    ensures { listing os.new op.new result ≡ step_all write (listing os.old op.old s) (all_rows stand (raw_before ut ui up) (fractals_before fs fp)) }
+    requires fact_1 { CanGo stand (raw_lent ut ui up) (fractals_lent fs fp) }
+    requires fact_2 { CanList write (listing os.old op.old s) (all_rows stand (raw_lent ut ui up) (fractals_lent fs fp)) }
+    ensures { listing os.new op.new result ≡ step_all write (listing os.old op.old s) (all_rows stand (raw_seen ut ui up) (fractals_seen fs fp)) }
 {
     let k = stand.strokes;
     let n = stand.unfinished;
@@ -62,8 +62,8 @@ fn list_all(
     fs: &[[i64; 6]],
     fp: &[[f64; 18]],
 ) -> FxListAnswer
-    requires { CanGo stand (raw_held ut ui up) (fractals_held fs fp) }
-    ensures { FxDone true (later_than none (all_rows stand (raw_before ut ui up) (fractals_before fs fp))) (fractals_before os op) (fractals_after os op) result }
+    requires { CanGo stand (raw_lent ut ui up) (fractals_lent fs fp) }
+    ensures { FxDone true (later_than none (all_rows stand (raw_seen ut ui up) (fractals_seen fs fp))) (fractals_before os op) (fractals_after os op) result }
 {
     let s = Listed { count: 0, time: 0 };
     let a = step_all(os, op, false, s, stand, ut, ui, up, fs, fp);
@@ -107,7 +107,7 @@ pub fn get_fx_list(
     os: &mut [[i64; 6]],
     op: &mut [[f64; 18]],
 ) -> FxListAnswer
-    ensures { FxDone (question4 stand (before rt ri rp ut ui up uc ue st si sp sc se fs fp)) (fx_list_of (state_of stand (before rt ri rp ut ui up uc ue st si sp sc se fs fp))) (fractals_before os op) (fractals_after os op) result }
+    ensures { FxDone (question4 stand (stores_seen rt ri rp ut ui up uc ue st si sp sc se fs fp)) (fx_list_of (state_of stand (stores_seen rt ri rp ut ui up uc ue st si sp sc se fs fp))) (fractals_before os op) (fractals_after os op) result }
 {
     // Its contract says how long the stand's lists of counts are.
     let k = kept(stand);

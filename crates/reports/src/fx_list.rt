@@ -2,7 +2,7 @@
 // last one listed. Where `write` says so, the rows of those that are listed are written to the lent output os and op.
 ghost use Rattle.std.specs.Prelude.{◌≡◌, true, ◌∷◌, [], ◌+◌, ◌≤◌, ◌<◌, length, take, drop, pos};
 ghost use Rattle.strokes.specs.StateRead.{stored_fractals, total};
-ghost use Rattle.strokes.specs.Lent.{fractals_held, fractals_before};
+ghost use Rattle.strokes.specs.Lent.{fractals_held, fractals_lent, fractals_seen};
 ghost use Rattle.strokes.specs.Code.StrokeSteps.{RoomFractals, Fewer};
 ghost use Rattle.strokes.specs.FractalRows.{stamps_of, prices_of};
 ghost use Rattle.reports.specs.FractalList.{is_after};
@@ -105,8 +105,8 @@ fn step_stroke(
     m: usize,
 ) -> Listed
     requires fact_1 { (at + m ≤ length fs.now) × (length fp.now ≡ length fs.now) }
-    requires fact_2 { CanList write (listing os.old op.old s) (drop 1 (take m (drop at (stored_fractals (fractals_held fs fp))))) }
-    ensures { listing os.new op.new result ≡ step_all write (listing os.old op.old s) (drop 1 (take m (drop at (stored_fractals (fractals_before fs fp))))) }
+    requires fact_2 { CanList write (listing os.old op.old s) (drop 1 (take m (drop at (stored_fractals (fractals_lent fs fp))))) }
+    ensures { listing os.new op.new result ≡ step_all write (listing os.old op.old s) (drop 1 (take m (drop at (stored_fractals (fractals_seen fs fp))))) }
 {
     let mut r = s;
     let mut j: usize = 1;
@@ -133,8 +133,8 @@ pub fn step_strokes(
 ) -> Listed
     requires fact_1 { (k ≤ 65) × (length fp.now ≡ length fs.now) × (length fs.now ≤ 65536) × (total (take k bars) ≤ length fs.now) }
     requires fact_2 { Fewer (take k bars) (take k fractals) }
-    requires fact_3 { CanList write (listing os.old op.old s) (stroke_rows (take k bars) (take k fractals) (stored_fractals (fractals_held fs fp))) }
-    ensures { listing os.new op.new result ≡ step_all write (listing os.old op.old s) (stroke_rows (take k bars) (take k fractals) (stored_fractals (fractals_before fs fp))) }
+    requires fact_3 { CanList write (listing os.old op.old s) (stroke_rows (take k bars) (take k fractals) (stored_fractals (fractals_lent fs fp))) }
+    ensures { listing os.new op.new result ≡ step_all write (listing os.old op.old s) (stroke_rows (take k bars) (take k fractals) (stored_fractals (fractals_seen fs fp))) }
 {
     let mut r = s;
     let mut at: usize = 0;

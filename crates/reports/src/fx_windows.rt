@@ -6,7 +6,7 @@ ghost use Rattle.check_bi.specs.Code.Scan.{candle_of};
 ghost use Rattle.strokes.specs.Code.StrokeSteps.{plain_bar, fractals_between};
 ghost use Rattle.reports.specs.Code.FxListing.{listing, step_all, CanList};
 ghost use Rattle.reports.specs.Code.FxTurns.{mark_of, turn_if, turn, found_if};
-ghost use Rattle.stores.specs.Lent.{raw_held, raw_before};
+ghost use Rattle.stores.specs.Lent.{raw_lent, raw_seen};
 
 use super::fx_list::{Listed, prices_of, stamps_of, step_row};
 use bars::Bar;
@@ -124,10 +124,10 @@ pub fn step_windows(
     up: &[[f64; 6]],
     end: usize,
 ) -> Listed
-    requires fact_1 { RoomRaw (raw_held ut ui up) end }
+    requires fact_1 { RoomRaw (raw_lent ut ui up) end }
     requires fact_2 { end ≤ 65536 }
-    requires fact_3 { CanList write (listing os.old op.old s) (fractals_between (raw_held ut ui up) 0 end) }
-    ensures { listing os.new op.new result ≡ step_all write (listing os.old op.old s) (fractals_between (raw_before ut ui up) 0 end) }
+    requires fact_3 { CanList write (listing os.old op.old s) (fractals_between (raw_lent ut ui up) 0 end) }
+    ensures { listing os.new op.new result ≡ step_all write (listing os.old op.old s) (fractals_between (raw_seen ut ui up) 0 end) }
 {
     let last = Mark::D;
     let mut w = Window {

@@ -2,7 +2,7 @@
 // all of them. Question 4 is asked first.
 ghost use Rattle.std.specs.Prelude.{◌≡◌};
 ghost use Rattle.bars.specs.Gaps.{gap_columns};
-ghost use Rattle.strokes.specs.Lent.{before};
+ghost use Rattle.strokes.specs.Lent.{stores_seen};
 ghost use Rattle.reports.specs.GapAnswers.{kept_prices, no_gap, pair_given, gap_report, ListedAt, gaps_answered, gaps_report};
 
 use bars::{Gap, GapAnswer};
@@ -61,7 +61,7 @@ pub fn check_gap_info(
     fp: &[[f64; 18]],
     place: usize,
 ) -> GapInfo
-    ensures { (result ≡ gap_report stand (before rt ri rp ut ui up uc ue st si sp sc se fs fp) place) × (result.failed ≡ 0 → ListedAt stand.ratio_places (kept_prices stand (before rt ri rp ut ui up uc ue st si sp sc se fs fp)) place result.gap) }
+    ensures { (result ≡ gap_report stand (stores_seen rt ri rp ut ui up uc ue st si sp sc se fs fp) place) × (result.failed ≡ 0 → ListedAt stand.ratio_places (kept_prices stand (stores_seen rt ri rp ut ui up uc ue st si sp sc se fs fp)) place result.gap) }
 {
     let n = stand.raw;
     let places = stand.ratio_places;
@@ -99,7 +99,7 @@ pub fn check_gaps(
     values: &mut [[f64; 3]],
     covered: &mut [bool],
 ) -> GapsAnswer
-    ensures { gaps_answered result (gap_columns kinds.new values.new covered.new) ≡ gaps_report stand (before rt ri rp ut ui up uc ue st si sp sc se fs fp) (gap_columns kinds.old values.old covered.old) }
+    ensures { gaps_answered result (gap_columns kinds.new values.new covered.new) ≡ gaps_report stand (stores_seen rt ri rp ut ui up uc ue st si sp sc se fs fp) (gap_columns kinds.old values.old covered.old) }
 {
     let n = stand.raw;
     let places = stand.ratio_places;

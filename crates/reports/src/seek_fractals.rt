@@ -8,7 +8,7 @@ ghost use Rattle.strokes.specs.Code.StrokeSteps.{plain_bar, fractals_between};
 ghost use Rattle.reports.specs.FractalAnswers.{answers_of};
 ghost use Rattle.named.specs.ReportQuestions.{nth};
 ghost use Rattle.reports.specs.Code.SeekFractals.{last_sought, pass_fractal, seek_window, found_of};
-ghost use Rattle.stores.specs.Lent.{raw_held, raw_before};
+ghost use Rattle.stores.specs.Lent.{raw_lent, raw_seen};
 
 use super::fractal_answers;
 use super::fractal_answers::{FractalAnswers, Strength};
@@ -119,8 +119,8 @@ fn begin(place: usize) -> Sought
 
 // Among the fractals of the first n bars.
 pub fn seek(ut: &[i64], ui: &[i32], up: &[[f64; 6]], n: usize, place: usize) -> Sought
-    requires { RoomRaw (raw_held ut ui up) n }
-    ensures { found_of result ≡ map answers_of (nth (fractals_between (raw_before ut ui up) 0 n) place) }
+    requires { RoomRaw (raw_lent ut ui up) n }
+    ensures { found_of result ≡ map answers_of (nth (fractals_between (raw_seen ut ui up) 0 n) place) }
 {
     let mut k = begin(place);
     let mut i: usize = 0;

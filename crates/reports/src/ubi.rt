@@ -7,13 +7,13 @@ ghost use Rattle.bars.specs.Lists.{join};
 ghost use Rattle.stores.specs.Stores.{raw_bars, zip_with};
 ghost use Rattle.stores.specs.Code.StoreRows.{RoomRaw, bar_at};
 ghost use Rattle.strokes.specs.StateRead.{state_of};
-ghost use Rattle.strokes.specs.Lent.{held, before};
+ghost use Rattle.strokes.specs.Lent.{stores_lent, stores_seen};
 ghost use Rattle.sound.specs.StandSound.{IsSound};
 ghost use Rattle.reports.specs.Unfinished.{one_of, get_ubi};
 ghost use Rattle.machine.specs.Strokes.{turned as turnedOf};
 ghost use Rattle.reports.specs.UbiAnswers.{no_bar, three_bars, no_ubi, ubi_given, ubi_answer};
 ghost use Rattle.reports.specs.Code.UbiSteps.{RisingFirst, none_seen, see as seeOf, see_at, ubi_of};
-ghost use Rattle.stores.specs.Lent.{raw_held, raw_before};
+ghost use Rattle.stores.specs.Lent.{raw_lent, raw_seen};
 
 use bars::Bar;
 use machine::{Direction, Mark};
@@ -99,8 +99,8 @@ fn see(e: Extremes, b: Bar) -> Extremes
 
 // The raw bar of time t, if one of the first n has it.
 fn see_named(e: Extremes, rt: &[i64], ri: &[i32], rp: &[[f64; 6]], n: usize, t: i64) -> Extremes
-    requires { RisingFirst (raw_held rt ri rp) n }
-    ensures { result ≡ see_at (take n (raw_bars (raw_before rt ri rp))) e t }
+    requires { RisingFirst (raw_lent rt ri rp) n }
+    ensures { result ≡ see_at (take n (raw_bars (raw_seen rt ri rp))) e t }
 {
     let p = stores::find_time(rt, n, t);
     if p < n {
@@ -132,8 +132,8 @@ fn see_row(
     row: &[i64],
     count: usize,
 ) -> Extremes
-    requires { RisingFirst (raw_held rt ri rp) n }
-    ensures { result ≡ foldl (see_at (take n (raw_bars (raw_before rt ri rp)))) e (take count row.now) }
+    requires { RisingFirst (raw_lent rt ri rp) n }
+    ensures { result ≡ foldl (see_at (take n (raw_bars (raw_seen rt ri rp)))) e (take count row.now) }
 {
     let k = smaller(count, row.len());
     let mut s = e;
@@ -156,9 +156,9 @@ fn see_rows(
     cs: &[usize],
     es: &[[i64; 101]],
 ) -> Extremes
-    requires fact_1 { RisingFirst (raw_held rt ri rp) n }
+    requires fact_1 { RisingFirst (raw_lent rt ri rp) n }
     requires fact_2 { (length cs.now ≡ length es.now) × (length cs.now ≤ 65536) }
-    ensures { result ≡ foldl (see_at (take n (raw_bars (raw_before rt ri rp)))) e (join (zip_with take cs.now es.now)) }
+    ensures { result ≡ foldl (see_at (take n (raw_bars (raw_seen rt ri rp)))) e (join (zip_with take cs.now es.now)) }
 {
     let mut s = e;
     let mut i: usize = 0;
@@ -227,8 +227,8 @@ fn refused(failed: u64) -> UbiAnswer
 
 // The fractal of this mark whose first bar stands at place `at`.
 fn fractal_at(ut: &[i64], ui: &[i32], up: &[[f64; 6]], at: usize, mark: Mark) -> FractalBars
-    requires { RoomRaw (raw_held ut ui up) (at + 3) }
-    ensures { result ≡ three_bars mark (bar_at (raw_before ut ui up) at) (bar_at (raw_before ut ui up) (at + 1)) (bar_at (raw_before ut ui up) (at + 2)) }
+    requires { RoomRaw (raw_lent ut ui up) (at + 3) }
+    ensures { result ≡ three_bars mark (bar_at (raw_seen ut ui up) at) (bar_at (raw_seen ut ui up) (at + 1)) (bar_at (raw_seen ut ui up) (at + 2)) }
 {
     let left = stores::read_bar(ut, ui, up, at);
     let mid = stores::read_bar(ut, ui, up, at + 1);
@@ -297,8 +297,8 @@ fn summary(
     fs: &[[i64; 6]],
     fp: &[[f64; 18]],
 ) -> UbiAnswer
-    requires { IsSound stand (held rt ri rp ut ui up uc ue st si sp sc se fs fp) }
-    ensures { result ≡ ubi_given (get_ubi (state_of stand (before rt ri rp ut ui up uc ue st si sp sc se fs fp)).raw (state_of stand (before rt ri rp ut ui up uc ue st si sp sc se fs fp)).unfinished (state_of stand (before rt ri rp ut ui up uc ue st si sp sc se fs fp)).strokes) }
+    requires { IsSound stand (stores_lent rt ri rp ut ui up uc ue st si sp sc se fs fp) }
+    ensures { result ≡ ubi_given (get_ubi (state_of stand (stores_seen rt ri rp ut ui up uc ue st si sp sc se fs fp)).raw (state_of stand (stores_seen rt ri rp ut ui up uc ue st si sp sc se fs fp)).unfinished (state_of stand (stores_seen rt ri rp ut ui up uc ue st si sp sc se fs fp)).strokes) }
 {
     let k = kept(stand);
     let n = stand.raw;
@@ -348,7 +348,7 @@ pub fn get_ubi(
     fs: &[[i64; 6]],
     fp: &[[f64; 18]],
 ) -> UbiAnswer
-    ensures { result ≡ ubi_answer stand (before rt ri rp ut ui up uc ue st si sp sc se fs fp) }
+    ensures { result ≡ ubi_answer stand (stores_seen rt ri rp ut ui up uc ue st si sp sc se fs fp) }
 {
     if !question4::is_sound(
         stand, rt, ri, rp, ut, ui, up, uc, ue, st, si, sp, sc, se, fs, fp,

@@ -4,9 +4,9 @@
 ghost use Rattle.std.specs.Prelude.{◌≡◌, true, ◌≤◌};
 ghost use Rattle.std.proofs.Math.Option.{none};
 ghost use Rattle.stores.specs.Code.StoreRows.{RoomRaw};
-ghost use Rattle.stores.specs.Lent.{raw_held, raw_before};
+ghost use Rattle.stores.specs.Lent.{raw_lent, raw_seen};
 ghost use Rattle.strokes.specs.StateRead.{state_of};
-ghost use Rattle.strokes.specs.Lent.{fractals_before, fractals_after, before};
+ghost use Rattle.strokes.specs.Lent.{fractals_before, fractals_after, stores_seen};
 ghost use Rattle.strokes.specs.Code.StrokeSteps.{fractals_between};
 ghost use Rattle.question4.specs.Question4.{question4};
 ghost use Rattle.reports.specs.FractalList.{later_than};
@@ -27,9 +27,9 @@ fn list_windows(
     up: &[[f64; 6]],
     n: usize,
 ) -> FxListAnswer
-    requires fact_1 { RoomRaw (raw_held ut ui up) n }
+    requires fact_1 { RoomRaw (raw_lent ut ui up) n }
     requires fact_2 { n ≤ 65536 }
-    ensures { FxDone true (later_than none (fractals_between (raw_before ut ui up) 0 n)) (fractals_before os op) (fractals_after os op) result }
+    ensures { FxDone true (later_than none (fractals_between (raw_seen ut ui up) 0 n)) (fractals_before os op) (fractals_after os op) result }
 {
     let s = Listed { count: 0, time: 0 };
     let a = step_windows(os, op, false, s, ut, ui, up, n);
@@ -72,7 +72,7 @@ pub fn ubi_fxs(
     os: &mut [[i64; 6]],
     op: &mut [[f64; 18]],
 ) -> FxListAnswer
-    ensures { FxDone (question4 stand (before rt ri rp ut ui up uc ue st si sp sc se fs fp)) (ubi_fxs_of (state_of stand (before rt ri rp ut ui up uc ue st si sp sc se fs fp))) (fractals_before os op) (fractals_after os op) result }
+    ensures { FxDone (question4 stand (stores_seen rt ri rp ut ui up uc ue st si sp sc se fs fp)) (ubi_fxs_of (state_of stand (stores_seen rt ri rp ut ui up uc ue st si sp sc se fs fp))) (fractals_before os op) (fractals_after os op) result }
 {
     // Its contract says how long the stand's lists of counts are.
     let k = kept(stand);

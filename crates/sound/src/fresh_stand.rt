@@ -2,7 +2,7 @@
 ghost use Rattle.std.specs.Prelude.{◌≡◌, length};
 ghost use Rattle.machine.specs.FeedQuestions.{or_else};
 ghost use Rattle.machine.specs.Soundness.{is_room, is_places};
-ghost use Rattle.strokes.specs.Lent.{before};
+ghost use Rattle.strokes.specs.Lent.{stores_seen};
 ghost use Rattle.sound.specs.FreshStand.{is_asked, question17, rooms_fit, or_default, empty_stand, fresh_of};
 
 use super::soundness::columns_agree;
@@ -119,7 +119,7 @@ pub fn fresh(
     fs: &[[i64; 6]],
     fp: &[[f64; 18]],
 ) -> FreshAnswer
-    ensures { result ≡ fresh_of minimum most power ratio (before rt ri rp ut ui up uc ue st si sp sc se fs fp) }
+    ensures { result ≡ fresh_of minimum most power ratio (stores_seen rt ri rp ut ui up uc ue st si sp sc se fs fp) }
 {
     let rooms = rooms_of(rt, ut, st);
     let agree = columns_agree(

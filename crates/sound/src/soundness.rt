@@ -8,11 +8,11 @@ ghost use Rattle.bars.specs.Lists.{every, last};
 ghost use Rattle.stores.specs.Code.StoreRows.{rising, place_of};
 ghost use Rattle.machine.specs.Soundness.{rises, same_time, is_setting, ends_on};
 ghost use Rattle.strokes.specs.StateRead.{raw_sized, merged_sized, fractal_sized, total};
-ghost use Rattle.strokes.specs.Lent.{fractals_before, before};
+ghost use Rattle.strokes.specs.Lent.{before, fractals_seen, stores_seen};
 ghost use Rattle.sound.specs.Code.SoundStand.{in_time, times_pass, size_of, above_zero, of_any_sign, prices_by, raw_row_by, merged_row_by, raw_row, merged_row, small_count, differ, top_row, alternating, is_real, ends_held, middle_times, stamps_pass, bars_by, bars_pass, fractal_columns, at_place, is_time, named_rows, newest_row, numbers_pass, raw_columns, unfinished_columns, stroke_columns, strokes_columns, front_columns};
 ghost use Rattle.sound.specs.FreshStand.{columns_agree};
 ghost use Rattle.sound.specs.StandSound.{stores_sound};
-ghost use Rattle.stores.specs.Lent.{raw_before, merged_before};
+ghost use Rattle.stores.specs.Lent.{raw_seen, merged_seen};
 
 use super::fresh_stand::{is_places, rooms_fit};
 use bars::{both, from_zero, is_price, is_volume};
@@ -614,7 +614,7 @@ fn total_fits(bars: [u32; 65], n: usize, room: usize) -> bool
 }
 
 fn raw_sized(n: usize, ts: &[i64], is: &[i32], ps: &[[f64; 6]]) -> bool
-    ensures { result ≡ raw_sized n (raw_before ts is ps) }
+    ensures { result ≡ raw_sized n (raw_seen ts is ps) }
 {
     both(ts.len() == n, both(is.len() == n, ps.len() == n))
 }
@@ -627,13 +627,13 @@ fn merged_sized(
     cs: &[usize],
     es: &[[i64; 101]],
 ) -> bool
-    ensures { result ≡ merged_sized n (merged_before ts is ps cs es) }
+    ensures { result ≡ merged_sized n (merged_seen ts is ps cs es) }
 {
     both(raw_sized(n, ts, is, ps), both(cs.len() == n, es.len() == n))
 }
 
 fn fractal_sized(n: usize, fs: &[[i64; 6]], fp: &[[f64; 18]]) -> bool
-    ensures { result ≡ fractal_sized n (fractals_before fs fp) }
+    ensures { result ≡ fractal_sized n (fractals_seen fs fp) }
 {
     both(fs.len() == n, fp.len() == n)
 }
@@ -807,7 +807,7 @@ fn front_pass(
 ) -> bool
     requires fact_1 { (n ≤ length rt.now) × (n ≤ length rp.now) × (length rt.now ≤ 65536) }
     requires fact_2 { (m ≤ length ut.now) × (m ≤ length up.now) × (m ≤ length uc.now) × (m ≤ length ue.now) }
-    ensures { result ≡ front_columns n m (raw_before rt ri rp) (merged_before ut ui up uc ue) }
+    ensures { result ≡ front_columns n m (raw_seen rt ri rp) (merged_seen ut ui up uc ue) }
 {
     if !raw_columns_pass(&rt[..n], &rp[..n]) {
         return false;
@@ -862,7 +862,7 @@ pub fn columns_agree(
     fs: &[[i64; 6]],
     fp: &[[f64; 18]],
 ) -> bool
-    ensures { result ≡ columns_agree rooms (before rt ri rp ut ui up uc ue st si sp sc se fs fp) }
+    ensures { result ≡ columns_agree rooms (stores_seen rt ri rp ut ui up uc ue st si sp sc se fs fp) }
 {
     let raw = rooms.raw;
     let unfinished = rooms.unfinished;
@@ -898,7 +898,7 @@ pub fn stores_sound(
     fs: &[[i64; 6]],
     fp: &[[f64; 18]],
 ) -> bool
-    ensures { result ≡ stores_sound stand (before rt ri rp ut ui up uc ue st si sp sc se fs fp) }
+    ensures { result ≡ stores_sound stand (stores_seen rt ri rp ut ui up uc ue st si sp sc se fs fp) }
 {
     let rooms = stand.rooms;
     if !columns_agree(

@@ -5,7 +5,7 @@ ghost use Rattle.std.specs.Prelude.{◌≡◌, [], ◌+◌, ◌≤◌, length, t
 ghost use Rattle.stores.specs.Code.StoreRows.{RoomRaw, RoomMerged, bar_at, new_bar_at, set_bar, copied_raw, CopiedInUse, BarWritten, rising, place_of};
 ghost use Rattle.stores.specs.Stores.{with_first};
 ghost use Rattle.bars.specs.Code.MergedBars.{with_element};
-ghost use Rattle.stores.specs.Lent.{raw_held, raw_before, raw_after, merged_held, merged_before, merged_after};
+ghost use Rattle.stores.specs.Lent.{raw_held, raw_before, raw_after, merged_held, merged_before, merged_after, raw_lent, raw_seen, merged_lent, merged_seen};
 
 use super::rows;
 use bars::{Bar, NewBar};
@@ -13,8 +13,8 @@ use bars::{Bar, NewBar};
 // ---- one bar
 
 pub fn read_bar(times: &[i64], ids: &[i32], prices: &[[f64; 6]], at: usize) -> Bar
-    requires { RoomRaw (raw_held times ids prices) (at + 1) }
-    ensures { result ≡ bar_at (raw_before times ids prices) at }
+    requires { RoomRaw (raw_lent times ids prices) (at + 1) }
+    ensures { result ≡ bar_at (raw_seen times ids prices) at }
 {
     let time = times[at];
     let id = ids[at];
@@ -51,8 +51,8 @@ pub fn read_new_bar(
     elements: &[[i64; 101]],
     at: usize,
 ) -> NewBar
-    requires { RoomMerged (merged_held times ids prices counts elements) (at + 1) }
-    ensures { result ≡ new_bar_at (merged_before times ids prices counts elements) at }
+    requires { RoomMerged (merged_lent times ids prices counts elements) (at + 1) }
+    ensures { result ≡ new_bar_at (merged_seen times ids prices counts elements) at }
 {
     let bar = read_bar(times, ids, prices, at);
     let count = counts[at];
@@ -99,9 +99,9 @@ pub fn join_bars(
     at: usize,
     n: usize,
 )
-    requires fact_1 { RoomRaw (raw_held ts is ps) (from + n) }
+    requires fact_1 { RoomRaw (raw_lent ts is ps) (from + n) }
     requires fact_2 { RoomRaw (raw_held times ids prices) (at + n) }
-    ensures { raw_after times ids prices ≡ copied_raw (raw_before times ids prices) at (raw_before ts is ps) from n }
+    ensures { raw_after times ids prices ≡ copied_raw (raw_before times ids prices) at (raw_seen ts is ps) from n }
 {
     rows::join_times(ts, from, times, at, n);
     rows::join_ids(is, from, ids, at, n);
@@ -162,8 +162,8 @@ pub fn join_new_bars(
     at: usize,
     n: usize,
 )
-    requires { (RoomMerged (merged_held ts is ps cs es) (from + n)) × (RoomMerged (merged_held times ids prices counts elements) (at + n)) }
-    ensures { CopiedInUse (merged_before times ids prices counts elements) at (merged_before ts is ps cs es) from n (merged_after times ids prices counts elements) }
+    requires { (RoomMerged (merged_lent ts is ps cs es) (from + n)) × (RoomMerged (merged_held times ids prices counts elements) (at + n)) }
+    ensures { CopiedInUse (merged_before times ids prices counts elements) at (merged_seen ts is ps cs es) from n (merged_after times ids prices counts elements) }
 {
     join_bars(ts, is, ps, from, times, ids, prices, at, n);
     rows::join_in_use(cs, es, from, counts, elements, at, n);

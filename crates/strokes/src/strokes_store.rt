@@ -8,7 +8,7 @@ ghost use Rattle.machine.specs.Fractals.{taken};
 ghost use Rattle.check_bi.specs.Code.Scan.{candle_of};
 ghost use Rattle.strokes.specs.Code.StrokeSteps.{set_fractal, RoomFractals, plain_bar, fractals_between, last_of, writing, put_fractal, put_window, LastStands, last_read, Fewer, Kept, Makeable, Made, ShedWhere, copied_fractals, moved_fractals, shifted, shed_stand, with_stroke, windows_end};
 ghost use Rattle.strokes.specs.FractalRows.{put_fractals};
-ghost use Rattle.stores.specs.Lent.{raw_held, raw_before, merged_held, merged_before, merged_after};
+ghost use Rattle.stores.specs.Lent.{merged_held, merged_before, merged_after, raw_lent, raw_seen, merged_lent, merged_seen};
 
 use super::fractal_rows::{end_index, row_direction};
 use crate::Stand;
@@ -148,9 +148,9 @@ pub fn check_fxs(
     at: usize,
 ) -> usize
     requires fact_1 { first ≤ end }
-    requires fact_2 { RoomRaw (raw_held ut ui up) end }
+    requires fact_2 { RoomRaw (raw_lent ut ui up) end }
     requires fact_3 { RoomFractals (fractals_held fs fp) (at + (end - first) - 2) }
-    ensures { (result ≡ length (fractals_between (raw_before ut ui up) first end)) × ((fractals_after fs fp) ≡ put_fractals (fractals_before fs fp) at (fractals_between (raw_before ut ui up) first end)) }
+    ensures { (result ≡ length (fractals_between (raw_seen ut ui up) first end)) × ((fractals_after fs fp) ≡ put_fractals (fractals_before fs fp) at (fractals_between (raw_seen ut ui up) first end)) }
 {
     let last = Mark::D;
     let mut w = Written { count: 0, last };
@@ -447,9 +447,9 @@ impl Stand {
         first: usize,
         bars: usize,
     ) -> Stand
-        requires fact_1 { Makeable self (merged_held ut ui up uc ue) first bars }
+        requires fact_1 { Makeable self (merged_lent ut ui up uc ue) first bars }
         requires fact_2 { Kept self (merged_held st si sp sc se) (fractals_held fs fp) }
-        ensures { Made self (merged_before ut ui up uc ue) (merged_before st si sp sc se) (fractals_before fs fp) first bars result (merged_after st si sp sc se) (fractals_after fs fp) }
+        ensures { Made self (merged_seen ut ui up uc ue) (merged_before st si sp sc se) (fractals_before fs fp) first bars result (merged_after st si sp sc se) (fractals_after fs fp) }
     {
         let counts = self.bars;
         let k = self.strokes;

@@ -6,7 +6,7 @@ ghost use Rattle.machine.specs.Break.{joined};
 ghost use Rattle.strokes.specs.Code.BarSteps.{HasUnfinished, CanMerge, RisingRaw, LastHas, CanJoin, merged_again, kept_raw, kept_unfinished, with_unfinished, without_last, stored_stroke};
 ghost use Rattle.strokes.specs.StateRead.{elements_sized};
 ghost use Rattle.strokes.specs.Code.ElementCounts.{StaySized};
-ghost use Rattle.stores.specs.Lent.{raw_held, raw_before, merged_held, merged_before, merged_after};
+ghost use Rattle.stores.specs.Lent.{merged_held, merged_before, merged_after, raw_lent, raw_seen, merged_lent, merged_seen};
 
 use crate::{Stand, count_before};
 use bars::Bar;
@@ -154,9 +154,9 @@ impl Stand {
         ue: &mut [[i64; 101]],
         t: i64,
     ) -> usize
-        requires fact_1 { RisingRaw self (raw_held rt ri rp) }
-        requires fact_2 { CanMerge self (merged_held ut ui up uc ue) (merge_all (kept_unfinished self (merged_held ut ui up uc ue)) (at_times (kept_raw self (raw_held rt ri rp)) (t ∷ []))) }
-        ensures { (HasUnfinished self (with_unfinished self result) (merged_after ut ui up uc ue) (merge_all (kept_unfinished self (merged_before ut ui up uc ue)) (at_times (kept_raw self (raw_before rt ri rp)) (t ∷ [])))) × (StaySized self.unfinished (merged_before ut ui up uc ue) result (merged_after ut ui up uc ue)) }
+        requires fact_1 { RisingRaw self (raw_lent rt ri rp) }
+        requires fact_2 { CanMerge self (merged_held ut ui up uc ue) (merge_all (kept_unfinished self (merged_held ut ui up uc ue)) (at_times (kept_raw self (raw_lent rt ri rp)) (t ∷ []))) }
+        ensures { (HasUnfinished self (with_unfinished self result) (merged_after ut ui up uc ue) (merge_all (kept_unfinished self (merged_before ut ui up uc ue)) (at_times (kept_raw self (raw_seen rt ri rp)) (t ∷ [])))) × (StaySized self.unfinished (merged_before ut ui up uc ue) result (merged_after ut ui up uc ue)) }
     {
         let n = self.raw;
         let m = self.unfinished;
@@ -185,10 +185,10 @@ impl Stand {
         ue: &mut [[i64; 101]],
         b: Bar,
     ) -> usize
-        requires fact_1 { RisingRaw self (raw_held rt ri rp) }
+        requires fact_1 { RisingRaw self (raw_lent rt ri rp) }
         requires fact_2 { LastHas self (merged_held ut ui up uc ue) }
-        requires fact_3 { CanMerge self (merged_held ut ui up uc ue) (merged_again (kept_raw self (raw_held rt ri rp)) (kept_unfinished self (merged_held ut ui up uc ue)) b) }
-        ensures { (HasUnfinished self (with_unfinished self result) (merged_after ut ui up uc ue) (merged_again (kept_raw self (raw_before rt ri rp)) (kept_unfinished self (merged_before ut ui up uc ue)) b)) × (StaySized self.unfinished (merged_before ut ui up uc ue) result (merged_after ut ui up uc ue)) }
+        requires fact_3 { CanMerge self (merged_held ut ui up uc ue) (merged_again (kept_raw self (raw_lent rt ri rp)) (kept_unfinished self (merged_held ut ui up uc ue)) b) }
+        ensures { (HasUnfinished self (with_unfinished self result) (merged_after ut ui up uc ue) (merged_again (kept_raw self (raw_seen rt ri rp)) (kept_unfinished self (merged_before ut ui up uc ue)) b)) × (StaySized self.unfinished (merged_before ut ui up uc ue) result (merged_after ut ui up uc ue)) }
     {
         let n = self.unfinished;
         let at = n - 1;
@@ -224,8 +224,8 @@ impl Stand {
         at: usize,
         rows: usize,
     ) -> usize
-        requires { CanJoin self (merged_held ut ui up uc ue) (merged_held st si sp sc se) at rows }
-        ensures { (HasUnfinished (without_last self) (with_unfinished (without_last self) result) (merged_after ut ui up uc ue) (joined (stored_stroke (merged_before st si sp sc se) at rows) (kept_unfinished self (merged_before ut ui up uc ue)))) × (T (elements_sized (at + rows) (merged_before st si sp sc se)) → StaySized self.unfinished (merged_before ut ui up uc ue) result (merged_after ut ui up uc ue)) }
+        requires { CanJoin self (merged_held ut ui up uc ue) (merged_lent st si sp sc se) at rows }
+        ensures { (HasUnfinished (without_last self) (with_unfinished (without_last self) result) (merged_after ut ui up uc ue) (joined (stored_stroke (merged_seen st si sp sc se) at rows) (kept_unfinished self (merged_before ut ui up uc ue)))) × (T (elements_sized (at + rows) (merged_seen st si sp sc se)) → StaySized self.unfinished (merged_before ut ui up uc ue) result (merged_after ut ui up uc ue)) }
     {
         let n = self.unfinished;
         let front = rows - 2;

@@ -5,7 +5,7 @@ ghost use Rattle.strokes.specs.Lent.{fractals_held, fractals_before, fractals_af
 ghost use Rattle.strokes.specs.Code.BarSteps.{with_unfinished};
 ghost use Rattle.writing.specs.Code.WriteSteps.{CanMake, MadeWhere, left_stand};
 ghost use Rattle.writing.specs.Code.Written.{CanMove, HasLeft, HasMoved};
-ghost use Rattle.stores.specs.Lent.{merged_held, merged_before, merged_after};
+ghost use Rattle.stores.specs.Lent.{merged_held, merged_before, merged_after, merged_lent, merged_seen};
 
 use crate::Wrote;
 use crate::unfinished_moves::leave;
@@ -29,8 +29,8 @@ pub fn make_if(
     fp: &mut [[f64; 18]],
     plan: Plan,
 ) -> Stand
-    requires { CanMake stand (merged_held ut ui up uc ue) (merged_held st si sp sc se) (fractals_held fs fp) plan }
-    ensures { MadeWhere plan.found.made stand (merged_before ut ui up uc ue) (merged_before st si sp sc se) (fractals_before fs fp) (plan.cut + plan.found.start.place) plan.found.bars result (merged_after st si sp sc se) (fractals_after fs fp) }
+    requires { CanMake stand (merged_lent ut ui up uc ue) (merged_held st si sp sc se) (fractals_held fs fp) plan }
+    ensures { MadeWhere plan.found.made stand (merged_seen ut ui up uc ue) (merged_before st si sp sc se) (fractals_before fs fp) (plan.cut + plan.found.start.place) plan.found.bars result (merged_after st si sp sc se) (fractals_after fs fp) }
 {
     let cut = plan.cut;
     let found = plan.found;

@@ -8,7 +8,7 @@ ghost use Rattle.strokes.specs.Code.StrokeSteps.{last_place, last_bars};
 ghost use Rattle.strokes.specs.StateRead.{bar_counts, total, elements_sized};
 ghost use Rattle.strokes.specs.Code.ElementCounts.{StaySized};
 ghost use Rattle.writing.specs.Code.WriteSteps.{CanPut, merged_from, CanBreak, CanLeave, left_stand, left_bars, rest_of};
-ghost use Rattle.stores.specs.Lent.{raw_held, raw_before, merged_held, merged_before, merged_after};
+ghost use Rattle.stores.specs.Lent.{merged_held, merged_before, merged_after, raw_lent, raw_seen, merged_lent, merged_seen};
 
 use asking::Plan;
 use bars::Bar;
@@ -28,8 +28,8 @@ pub fn put_bar(
     later: bool,
     b: Bar,
 ) -> usize
-    requires { CanPut stand (raw_held rt ri rp) (merged_held ut ui up uc ue) later b }
-    ensures { (HasUnfinished stand (with_unfinished stand result) (merged_after ut ui up uc ue) (merged_from later stand (raw_before rt ri rp) (merged_before ut ui up uc ue) b)) × (StaySized stand.unfinished (merged_before ut ui up uc ue) result (merged_after ut ui up uc ue)) }
+    requires { CanPut stand (raw_lent rt ri rp) (merged_held ut ui up uc ue) later b }
+    ensures { (HasUnfinished stand (with_unfinished stand result) (merged_after ut ui up uc ue) (merged_from later stand (raw_seen rt ri rp) (merged_before ut ui up uc ue) b)) × (StaySized stand.unfinished (merged_before ut ui up uc ue) result (merged_after ut ui up uc ue)) }
 {
     if later {
         return stand.put_merged(ut, ui, up, uc, ue, b);
@@ -81,11 +81,11 @@ fn join_last(
     se: &[[i64; 101]],
 ) -> usize
     requires fact_1 { SizedMerged (merged_held ut ui up uc ue) stand.rooms.unfinished }
-    requires fact_2 { SizedMerged (merged_held st si sp sc se) stand.rooms.strokes }
+    requires fact_2 { SizedMerged (merged_lent st si sp sc se) stand.rooms.strokes }
     requires fact_3 { stand.unfinished ≤ stand.rooms.unfinished }
-    requires fact_4 { CanBreak stand (merged_held st si sp sc se) (kept_unfinished stand (merged_held ut ui up uc ue)) }
-    ensures has_unfinished { HasUnfinished (without_last stand) (with_unfinished (without_last stand) result) (merged_after ut ui up uc ue) (joined (stored_stroke (merged_before st si sp sc se) (last_place stand) (last_bars stand)) (kept_unfinished stand (merged_before ut ui up uc ue))) }
-    ensures stay_sized { T (elements_sized (total (bar_counts stand)) (merged_before st si sp sc se)) → StaySized stand.unfinished (merged_before ut ui up uc ue) result (merged_after ut ui up uc ue) }
+    requires fact_4 { CanBreak stand (merged_lent st si sp sc se) (kept_unfinished stand (merged_held ut ui up uc ue)) }
+    ensures has_unfinished { HasUnfinished (without_last stand) (with_unfinished (without_last stand) result) (merged_after ut ui up uc ue) (joined (stored_stroke (merged_seen st si sp sc se) (last_place stand) (last_bars stand)) (kept_unfinished stand (merged_before ut ui up uc ue))) }
+    ensures stay_sized { T (elements_sized (total (bar_counts stand)) (merged_seen st si sp sc se)) → StaySized stand.unfinished (merged_before ut ui up uc ue) result (merged_after ut ui up uc ue) }
 {
     let counts = stand.bars;
     let n = stand.strokes - 1;
@@ -109,9 +109,9 @@ pub fn leave(
     se: &[[i64; 101]],
     plan: Plan,
 ) -> usize
-    requires { CanLeave stand (merged_held ut ui up uc ue) (merged_held st si sp sc se) plan }
-    ensures has_unfinished { HasUnfinished (left_stand plan.broken stand) (with_unfinished (left_stand plan.broken stand) result) (merged_after ut ui up uc ue) (left_bars plan.broken stand (merged_before st si sp sc se) (drop (rest_of plan) (kept_unfinished stand (merged_before ut ui up uc ue)))) }
-    ensures stay_sized { T (elements_sized (total (bar_counts stand)) (merged_before st si sp sc se)) → StaySized stand.unfinished (merged_before ut ui up uc ue) result (merged_after ut ui up uc ue) }
+    requires { CanLeave stand (merged_held ut ui up uc ue) (merged_lent st si sp sc se) plan }
+    ensures has_unfinished { HasUnfinished (left_stand plan.broken stand) (with_unfinished (left_stand plan.broken stand) result) (merged_after ut ui up uc ue) (left_bars plan.broken stand (merged_seen st si sp sc se) (drop (rest_of plan) (kept_unfinished stand (merged_before ut ui up uc ue)))) }
+    ensures stay_sized { T (elements_sized (total (bar_counts stand)) (merged_seen st si sp sc se)) → StaySized stand.unfinished (merged_before ut ui up uc ue) result (merged_after ut ui up uc ue) }
 {
     let cut = plan.cut;
     let broken = plan.broken;

@@ -1,6 +1,6 @@
 // create_fake_bis of a kept stroke, written to lent columns.
 ghost use Rattle.std.specs.Prelude.{◌≡◌, ◌+◌, ◌<◌, ◌&&◌, leb, set};
-ghost use Rattle.strokes.specs.Lent.{fractals_held, fractals_before, before};
+ghost use Rattle.strokes.specs.Lent.{fractals_lent, fractals_seen, stores_seen};
 ghost use Rattle.zones.specs.ListedFakes.{fakes_fit, fakes_if, fakes_call, listed_fakes};
 ghost use Rattle.strokes.specs.Code.StrokeSteps.{RoomFractals};
 ghost use Rattle.zones.specs.Code.FakeOfTwo.{fake_count};
@@ -35,8 +35,8 @@ pub fn direction_code(d: Direction) -> u8
 
 // The fake stroke from the fractal in row p to the next, its power to `places` places.
 fn fake_at(places: usize, fs: &[[i64; 6]], fp: &[[f64; 18]], p: usize) -> FakeStroke
-    requires { RoomFractals (fractals_held fs fp) (p + 2) }
-    ensures { result ≡ fake_at places (fractals_before fs fp) p }
+    requires { RoomFractals (fractals_lent fs fp) (p + 2) }
+    ensures { result ≡ fake_at places (fractals_seen fs fp) p }
 {
     let q = p + 1;
     let mark = mark_at(fp, p);
@@ -70,9 +70,9 @@ fn write_fakes(
     op: &mut [[f64; 3]],
     od: &mut [u8],
 )
-    requires fact_1 { RoomFractals (fractals_held fs fp) (p + n + 1) }
+    requires fact_1 { RoomFractals (fractals_lent fs fp) (p + n + 1) }
     requires fact_2 { RoomFakes (fakes_held ot op od) n }
-    ensures { fakes_after ot op od ≡ put_fakes (fakes_before ot op od) (items_from (fake_at places (fractals_before fs fp)) p n) }
+    ensures { fakes_after ot op od ≡ put_fakes (fakes_before ot op od) (items_from (fake_at places (fractals_seen fs fp)) p n) }
 {
     let mut j: usize = 0;
     while j < n {
@@ -92,9 +92,9 @@ fn put_fakes(
     op: &mut [[f64; 3]],
     od: &mut [u8],
 ) -> usize
-    requires fact_1 { StrokeStands stand (fractals_held fs fp) i }
+    requires fact_1 { StrokeStands stand (fractals_lent fs fp) i }
     requires fact_2 { RoomFakes (fakes_held ot op od) (fake_count (fractal_number stand i)) }
-    ensures { (result ≡ fake_count (fractal_number stand i)) × (fakes_after ot op od ≡ put_fakes (fakes_before ot op od) (read_fakes stand (fractals_before fs fp) i)) }
+    ensures { (result ≡ fake_count (fractal_number stand i)) × (fakes_after ot op od ≡ put_fakes (fakes_before ot op od) (read_fakes stand (fractals_seen fs fp) i)) }
 {
     let counts = stand.bars;
     let fractals = stand.fractals;
@@ -128,8 +128,8 @@ fn list_fakes(
     op: &mut [[f64; 3]],
     od: &mut [u8],
 ) -> FakesAnswer
-    requires { StrokeStands stand (fractals_held fs fp) i }
-    ensures { fakes_call result.failed result.count (fakes_after ot op od) ≡ fakes_if (fakes_fit (fakes_before ot op od) (read_fakes stand (fractals_before fs fp) i)) (fakes_before ot op od) (read_fakes stand (fractals_before fs fp) i) }
+    requires { StrokeStands stand (fractals_lent fs fp) i }
+    ensures { fakes_call result.failed result.count (fakes_after ot op od) ≡ fakes_if (fakes_fit (fakes_before ot op od) (read_fakes stand (fractals_seen fs fp) i)) (fakes_before ot op od) (read_fakes stand (fractals_seen fs fp) i) }
 {
     let fractals = stand.fractals;
     let m = fractals[i] as usize;
@@ -170,7 +170,7 @@ pub fn create_fake_bis(
     op: &mut [[f64; 3]],
     od: &mut [u8],
 ) -> FakesAnswer
-    ensures { fakes_call result.failed result.count (fakes_after ot op od) ≡ listed_fakes stand (before rt ri rp ut ui up uc ue st si sp sc se fs fp) place (fakes_before ot op od) }
+    ensures { fakes_call result.failed result.count (fakes_after ot op od) ≡ listed_fakes stand (stores_seen rt ri rp ut ui up uc ue st si sp sc se fs fp) place (fakes_before ot op od) }
 {
     let failed = run_failed(
         stand, rt, ri, rp, ut, ui, up, uc, ue, st, si, sp, sc, se, fs, fp, place, 1,

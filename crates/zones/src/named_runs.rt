@@ -1,6 +1,6 @@
 // Runs of kept strokes, named by the first place and the length: is_bis_up and is_bis_down.
 ghost use Rattle.std.specs.Prelude.{◌≡◌, ◌+◌, ◌-◌, ◌≤◌, leb, length};
-ghost use Rattle.strokes.specs.Lent.{fractals_held, fractals_before, before};
+ghost use Rattle.strokes.specs.Lent.{fractals_lent, fractals_seen, stores_seen};
 ghost use Rattle.zones.specs.NamedRuns.{run_failed, bis_up_answer, bis_down_answer};
 ghost use Rattle.zones.specs.BisUpDown.{is_bis_up, is_bis_down};
 ghost use Rattle.zones.specs.Code.GrowingRun.{run_of};
@@ -27,8 +27,8 @@ fn grown_run(
     count: usize,
 ) -> GrowingRun
     requires fact_1 { 1 ≤ count }
-    requires fact_2 { RunStands stand (fractals_held fs fp) first count }
-    ensures { result ≡ run_of (summary_at stand (fractals_before fs fp) first) (read_run stand (fractals_before fs fp) (first + 1) (count - 1)) }
+    requires fact_2 { RunStands stand (fractals_lent fs fp) first count }
+    ensures { result ≡ run_of (summary_at stand (fractals_seen fs fp) first) (read_run stand (fractals_seen fs fp) (first + 1) (count - 1)) }
 {
     let a = summary_at(stand, fs, fp, first);
     let mut w = GrowingRun::start(a);
@@ -43,8 +43,8 @@ fn grown_run(
 }
 
 fn run_goes_up(stand: Stand, fs: &[[i64; 6]], fp: &[[f64; 18]], first: usize, count: usize) -> bool
-    requires { RunStands stand (fractals_held fs fp) first count }
-    ensures { result ≡ is_bis_up (read_run stand (fractals_before fs fp) first count) }
+    requires { RunStands stand (fractals_lent fs fp) first count }
+    ensures { result ≡ is_bis_up (read_run stand (fractals_seen fs fp) first count) }
 {
     if count == 0 {
         return false;
@@ -60,8 +60,8 @@ fn run_goes_down(
     first: usize,
     count: usize,
 ) -> bool
-    requires { RunStands stand (fractals_held fs fp) first count }
-    ensures { result ≡ is_bis_down (read_run stand (fractals_before fs fp) first count) }
+    requires { RunStands stand (fractals_lent fs fp) first count }
+    ensures { result ≡ is_bis_down (read_run stand (fractals_seen fs fp) first count) }
 {
     if count == 0 {
         return false;
@@ -91,7 +91,7 @@ pub fn run_failed(
     first: usize,
     count: usize,
 ) -> u64
-    ensures { (result ≡ run_failed stand (before rt ri rp ut ui up uc ue st si sp sc se fs fp) first count) × (length stand.bars ≡ 65) × (length stand.fractals ≡ 65) }
+    ensures { (result ≡ run_failed stand (stores_seen rt ri rp ut ui up uc ue st si sp sc se fs fp) first count) × (length stand.bars ≡ 65) × (length stand.fractals ≡ 65) }
 {
     let exists = run_exists(stand, first, count);
     if !question4::is_sound(
@@ -126,7 +126,7 @@ pub fn is_bis_up(
     first: usize,
     count: usize,
 ) -> RunAnswer
-    ensures { result ≡ bis_up_answer stand (before rt ri rp ut ui up uc ue st si sp sc se fs fp) first count }
+    ensures { result ≡ bis_up_answer stand (stores_seen rt ri rp ut ui up uc ue st si sp sc se fs fp) first count }
 {
     let failed = run_failed(
         stand, rt, ri, rp, ut, ui, up, uc, ue, st, si, sp, sc, se, fs, fp, first, count,
@@ -165,7 +165,7 @@ pub fn is_bis_down(
     first: usize,
     count: usize,
 ) -> RunAnswer
-    ensures { result ≡ bis_down_answer stand (before rt ri rp ut ui up uc ue st si sp sc se fs fp) first count }
+    ensures { result ≡ bis_down_answer stand (stores_seen rt ri rp ut ui up uc ue st si sp sc se fs fp) first count }
 {
     let failed = run_failed(
         stand, rt, ri, rp, ut, ui, up, uc, ue, st, si, sp, sc, se, fs, fp, first, count,

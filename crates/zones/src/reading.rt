@@ -1,6 +1,6 @@
 // Kept strokes, read by place off the rows of the fractal store.
 ghost use Rattle.std.specs.Prelude.{◌≡◌, [], ◌+◌, ◌-◌, ◌*◌, ◌/◌, ◌<◌, length, take, get_or};
-ghost use Rattle.strokes.specs.Lent.{fractals_held, fractals_before};
+ghost use Rattle.strokes.specs.Lent.{fractals_lent, fractals_seen};
 ghost use Rattle.zones.specs.Code.StrokesRead.{summary_from, summary_at, read_run, StrokeStands, RunStands};
 
 use super::lent_zone::no_stroke;
@@ -28,8 +28,8 @@ fn summary_from(mark: Mark, a: Candle, z: Candle) -> Summary
 
 // The kept stroke at place i.
 pub fn summary_at(stand: Stand, fs: &[[i64; 6]], fp: &[[f64; 18]], i: usize) -> Summary
-    requires { StrokeStands stand (fractals_held fs fp) i }
-    ensures { result ≡ summary_at stand (fractals_before fs fp) i }
+    requires { StrokeStands stand (fractals_lent fs fp) i }
+    ensures { result ≡ summary_at stand (fractals_seen fs fp) i }
 {
     let counts = stand.bars;
     let fractals = stand.fractals;
@@ -51,8 +51,8 @@ pub fn read_run(
     first: usize,
     count: usize,
 ) -> [Summary; 64]
-    requires { RunStands stand (fractals_held fs fp) first count }
-    ensures { take count result ≡ read_run stand (fractals_before fs fp) first count }
+    requires { RunStands stand (fractals_lent fs fp) first count }
+    ensures { take count result ≡ read_run stand (fractals_seen fs fp) first count }
 {
     let none = no_stroke();
     let mut run = [none; 64];

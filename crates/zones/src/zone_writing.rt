@@ -2,7 +2,7 @@
 // strokes are written to lent columns.
 ghost use Rattle.std.specs.Prelude.{◌≡◌, ◌+◌, ◌≤◌, take, set};
 ghost use mathlib.Core.List.{foldl};
-ghost use Rattle.strokes.specs.Lent.{fractals_held, fractals_before, before};
+ghost use Rattle.strokes.specs.Lent.{fractals_lent, fractals_seen, stores_seen};
 ghost use Rattle.zones.specs.ListedZones.{zones_call, listed_zones};
 ghost use Rattle.zones.specs.Code.StrokesRead.{read_run, RunStands};
 ghost use Rattle.zones.specs.FakeRows.{direction_code};
@@ -149,8 +149,8 @@ fn list_zones(
     bp: &mut [[f64; 2]],
     bd: &mut [u8],
 ) -> ZonesAnswer
-    requires { RunStands stand (fractals_held fs fp) first count }
-    ensures { zones_call result.failed result.zones result.strokes (zones_after zt zp zn) (strokes_after bt bp bd) ≡ zones_read_if (zones_before zt zp zn) (strokes_before bt bp bd) (read_run stand (fractals_before fs fp) first count) }
+    requires { RunStands stand (fractals_lent fs fp) first count }
+    ensures { zones_call result.failed result.zones result.strokes (zones_after zt zp zn) (strokes_after bt bp bd) ≡ zones_read_if (zones_before zt zp zn) (strokes_before bt bp bd) (read_run stand (fractals_seen fs fp) first count) }
 {
     let run = read_run(stand, fs, fp, first, count);
     let built = zones_of_run(run, count);
@@ -205,7 +205,7 @@ pub fn get_zs_seq(
     bp: &mut [[f64; 2]],
     bd: &mut [u8],
 ) -> ZonesAnswer
-    ensures { zones_call result.failed result.zones result.strokes (zones_after zt zp zn) (strokes_after bt bp bd) ≡ listed_zones stand (before rt ri rp ut ui up uc ue st si sp sc se fs fp) first count (zones_before zt zp zn) (strokes_before bt bp bd) }
+    ensures { zones_call result.failed result.zones result.strokes (zones_after zt zp zn) (strokes_after bt bp bd) ≡ listed_zones stand (stores_seen rt ri rp ut ui up uc ue st si sp sc se fs fp) first count (zones_before zt zp zn) (strokes_before bt bp bd) }
 {
     let failed = run_failed(
         stand, rt, ri, rp, ut, ui, up, uc, ue, st, si, sp, sc, se, fs, fp, first, count,
