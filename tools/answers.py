@@ -296,6 +296,7 @@ def turn(path, d, rel, check):
             body = re.sub(r"(?<![\w.«-])(" + ID + r")", lambda q: table.get(q.group(1), q.group(1)), body)
             body = PATH.sub(lambda q: table.get(q.group(1), q.group(1)) + q.group(2) if q.group(1) in table else q.group(0), body)
             body = re.sub(r"(?<=[\w'])((?:\." + ID + r")+)", lambda q: ".".join(source(x) for x in q.group(1).split(".")), body)
+            body = re.sub(r"\(to_z w\d+ (l\.[^\s()]+)\)", r"\1", body)
             name = kind[:at] + "-" + new
             invariants += g["comment"] + f"abbrev pub {name} : goal.{name}\n" + g["unfolding"] + f"{name} l ={body.rstrip()}\n\n"
             continue
@@ -311,6 +312,8 @@ def turn(path, d, rel, check):
         var = params[0] if params else "c"
         if not params:
             left.append(f"no argument {g['name']}")
+        if new.startswith("shape_of-"):
+            continue
         if re.sub(r"\s", "", body) == "searchrules" and not g["unfolding"]:
             continue
         body, whole = turned(body, f, place, var)

@@ -10,15 +10,6 @@ join_ids-requires c = (c.requires.fact_1.ids, c.requires.fact_2.ids)
 pub join_prices-requires : goal.join_prices-requires
 join_prices-requires c = (c.requires.fact_1.prices, c.requires.fact_2.prices)
 
-pub shape_of-times : goal.shape_of-times
-shape_of-times c = c.join_times.auto.1.1.0
-
-pub shape_of-ids : goal.shape_of-ids
-shape_of-ids c = c.join_ids.auto.1.1.0
-
-pub shape_of-prices : goal.shape_of-prices
-shape_of-prices c = c.join_prices.auto.1.1.0
-
 pub returns : goal.returns
 unfolding copied_raw
 returns c = rw (c.join_times.ensures, c.join_ids.ensures, c.join_prices.ensures)

@@ -10,15 +10,6 @@ down_ids-requires c = (c.requires.fact_1, c.requires.fact_2.ids)
 pub down_prices-requires : goal.down_prices-requires
 down_prices-requires c = (c.requires.fact_1, c.requires.fact_2.prices)
 
-pub shape_of-times : goal.shape_of-times
-shape_of-times c = c.down_times.auto.0
-
-pub shape_of-ids : goal.shape_of-ids
-shape_of-ids c = c.down_ids.auto.0
-
-pub shape_of-prices : goal.shape_of-prices
-shape_of-prices c = c.down_prices.auto.0
-
 pub returns : goal.returns
 unfolding copied_raw
 returns c = rw (c.down_times.ensures, c.down_ids.ensures, c.down_prices.ensures)

@@ -10,15 +10,6 @@ up_ids-requires c = (c.requires.fact_1, c.requires.fact_2.ids)
 pub up_prices-requires : goal.up_prices-requires
 up_prices-requires c = (c.requires.fact_1, c.requires.fact_2.prices)
 
-pub shape_of-times : goal.shape_of-times
-shape_of-times c = c.up_times.auto.0
-
-pub shape_of-ids : goal.shape_of-ids
-shape_of-ids c = c.up_ids.auto.0
-
-pub shape_of-prices : goal.shape_of-prices
-shape_of-prices c = c.up_prices.auto.0
-
 pub returns : goal.returns
 unfolding copied_raw
 returns c = rw (c.up_times.ensures, c.up_ids.ensures, c.up_prices.ensures)

@@ -7,17 +7,6 @@ use Rattle.stores.proofs.rows.up_in_use.Goals as goal
 pub loop-left-init : goal.loop-left-init
 loop-left-init c = let a = c.args in (search rules, up-rows-none a.cs.now a.es.now a.at a.from a.n, refl, refl)
 
-pub loop-left-preserved : goal.loop-left-preserved
-loop-left-preserved c =
-    let a = c.args in
-    let l = c.loop-left in
-    let r = c.Move-row.ensures in (
-      search rules,
-      up-rows-turn a.cs.now a.es.now l.cs l.es _ a.at a.from a.n l.left _ l.invariant.1 l.invariant.2 (search rules) (search rules) (search rules) (search rules) (search rules) refl r.0 r.1,
-      search rules,
-      search rules,
-    )
-
 pub returns : goal.returns
 returns c =
     let a = c.args in
