@@ -1,5 +1,4 @@
 use Prim.Native.Nat.{ℕ}
-use borrow.Author.Rules.{length_unmapped}
 use Rattle.writing.proofs.MoveLaws.{has_moved}
 use Rattle.strokes.specs.Lent.{fractal_store}
 use Rattle.stores.specs.Stores.{merged_store}
@@ -61,4 +60,4 @@ pub shape_of-fp : goal.shape_of-fp
 shape_of-fp c = let h = (after-shed-if c).shed-if.ensures in let m = (make-and-leave-seen c).make-and-leave.ensures in h.kept.fractals.prices ∙ ap (λ x. x.strokes) (h.rest.rooms ∙ m.rooms) ∙ sym (start_seen c).pre.kept.fractals.prices
 
 pub returns : goal.returns
-returns c = let a = (start_seen c).args in let m = (make-and-leave-seen c).make-and-leave in let g = m.ok in let lb : length m.result.bars ≡ 65 = length_unmapped ℕ m.result.bars 65 g.1.1.1.1.1.1.1.1.0.1.0.1 in let lf : length m.result.fractals ≡ 65 = length_unmapped ℕ m.result.fractals 65 g.1.1.1.1.1.1.1.1.1.0.1.0.1 in has_moved a.stand (merged_store a.ut.now a.ui.now a.up.now a.uc.now a.ue.now) (merged_store a.st.now a.si.now a.sp.now a.sc.now a.se.now) (fractal_store a.fs.now a.fp.now) a.plan (start_seen c).pre m.result _ _ _ m.ensures lb lf _ _ _ _ refl (after-shed-if c).shed-if.ensures (after-count-of (after-count-of2-from-make-and-leave (after-make-and-leave (after-count-of3-from-shed-if (after-shed-if c))))).count_of.ensures (after-count-of2-from-make-and-leave (after-make-and-leave (after-count-of3-from-shed-if (after-shed-if c)))).count-of2.ensures (after-count-of3-from-shed-if (after-shed-if c)).count-of3.ensures
+returns c = let a = (start_seen c).args in let m = (make-and-leave-seen c).make-and-leave in let g = m.ok in let lb : length m.result.bars ≡ 65 = g.1.1.1.1.1.1.1.1.0.1.0.1 in let lf : length m.result.fractals ≡ 65 = g.1.1.1.1.1.1.1.1.1.0.1.0.1 in has_moved a.stand (merged_store a.ut.now a.ui.now a.up.now a.uc.now a.ue.now) (merged_store a.st.now a.si.now a.sp.now a.sc.now a.se.now) (fractal_store a.fs.now a.fp.now) a.plan (start_seen c).pre m.result _ _ _ m.ensures lb lf _ _ _ _ refl (after-shed-if c).shed-if.ensures (after-count-of (after-count-of2-from-make-and-leave (after-make-and-leave (after-count-of3-from-shed-if (after-shed-if c))))).count_of.ensures (after-count-of2-from-make-and-leave (after-make-and-leave (after-count-of3-from-shed-if (after-shed-if c)))).count-of2.ensures (after-count-of3-from-shed-if (after-shed-if c)).count-of3.ensures
