@@ -54,4 +54,4 @@ returns c = let a = c.args in
     let at = c.total_bars-at in
     let rows = c.bars_at-rows.ensures in
     let l = kept_unfinished a.stand (merged_store a.ut.now a.ui.now a.up.now a.uc.now a.ue.now) in
-    record { has_unfinished = joined-last a.stand (merged_store a.ut.now a.ui.now a.up.now a.uc.now a.ue.now) (merged_store a.st.now a.si.now a.sp.now a.sc.now a.se.now) at.result c.bars_at-rows.result _ _ l at.ensures rows j.0; stay_sized = (λ t. j.1 (subst (λ (x : ℕ). T (elements_sized (at.result + x) (merged_store a.st.now a.si.now a.sp.now a.sc.now a.se.now))) (sym rows) (last-elements a.stand (merged_store a.st.now a.si.now a.sp.now a.sc.now a.se.now) at.result one at.ensures t)), ) }
+    record { has_unfinished = joined-last a.stand (merged_store a.ut.now a.ui.now a.up.now a.uc.now a.ue.now) (merged_store a.st.now a.si.now a.sp.now a.sc.now a.se.now) at.result c.bars_at-rows.result _ _ l at.ensures rows j.0; stay_sized = λ t. j.1 (subst (λ (x : ℕ). T (elements_sized (at.result + x) (merged_store a.st.now a.si.now a.sp.now a.sc.now a.se.now))) (sym rows) (last-elements a.stand (merged_store a.st.now a.si.now a.sp.now a.sc.now a.se.now) at.result one at.ensures t)) }
