@@ -88,5 +88,4 @@ returns c =
     let w = c.update_bi-moved in
     let r = c.keep_raw-raw in
     let t = w.result.stand in
-    let l = w.type_inv.0 in
-    is-written a.stand m a.b a.later a.plan c.requires g.1.1.1.1.1.1.1.1.0.1.0.1 g.1.1.1.1.1.1.1.1.1.0.1.0.1 (with_unfinished a.stand p.result) _ p.ensures.0 p.ensures.1 w.result _ _ _ w.ensures (with_raw t r.result) _ r.ensures ? ? _ refl refl refl refl
+    is-written a.stand m a.b a.later a.plan c.requires g.1.1.1.1.1.1.1.1.0.1.0.1 g.1.1.1.1.1.1.1.1.1.0.1.0.1 (with_unfinished a.stand p.result) _ p.ensures.0 p.ensures.1 w.result _ _ _ w.ensures (with_raw t r.result) _ r.ensures w.type_inv.1.1.0.1.1.1.1.1.1.1.1.0.1.0.1 w.type_inv.1.1.0.1.1.1.1.1.1.1.1.1.0.1.0.1 _ refl refl refl refl
