@@ -26,7 +26,7 @@ see_rows-e-requires c = let k = c.kept-k.ensures in
 
 pub returns-then-not-e : goal.returns-then-not-e
 unfolding stores_of
-returns-then-not-e c = let k = c.kept-k.ensures in no_bars _ _ k.1 k.2 c.requires _ _ _ c.none_seen.ensures c.see_rows-e.ensures (not-true _ c.if-not-e.true) c.refused-then-not-e.ensures
+returns-then-not-e c = let k = c.kept-k.ensures in no_bars _ _ k.1 k.2 c.requires _ _ _ c.none_seen-none.ensures c.see_rows-e.ensures (not-true _ c.if-not-e.true) c.refused-then-not-e.ensures
 
 pub scan_from-s-requires : goal.scan_from-s-requires
 unfolding stores_of
@@ -48,4 +48,4 @@ fractal_at-first-requires c = let k = c.kept-k.ensures in first-room _ _ k.1 k.2
 
 pub returns : goal.returns
 unfolding stores_of
-returns c = let k = c.kept-k.ensures in summed_is _ _ k.1 k.2 c.requires _ _ _ _ _ _ _ (not-zero _ _ k.0 c.if-k-eq0.false) c.none_seen.ensures c.see_rows-e.ensures (not-false _ c.if-not-e.false) c.scan_from-s.ensures.value c.if-count-eq0.false c.last_stroke-b.ensures c.fractal_at-first.ensures c.turned-direction.ensures c.summed.ensures
+returns c = let k = c.kept-k.ensures in summed_is _ _ k.1 k.2 c.requires _ _ _ _ _ _ _ (not-zero _ _ k.0 c.if-k-eq0.false) c.none_seen-none.ensures c.see_rows-e.ensures (not-false _ c.if-not-e.false) c.scan_from-s.ensures.value c.if-count-eq0.false c.last_stroke-b.ensures c.fractal_at-first.ensures c.turned-direction.ensures c.summed.ensures
