@@ -7,7 +7,7 @@ use lib.ListN.{length, take, get_or}
 use native.Mathlib.Omega.{arith}
 use mathlib.Core.List.{[]}
 use mathlib.Core.Path.{refl, ◌∙◌}
-use Prim.Native.Nat.{◌<◌, ◌-◌}
+use Prim.Native.Nat.{◌<◌}
 use borrow.Author.Rules.{rules}
 use Rattle.reports.proofs.asked_raw_bars.put_rows.Goals as goal
 

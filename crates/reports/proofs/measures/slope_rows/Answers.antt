@@ -1,4 +1,4 @@
-use Prim.Native.Nat.{◌<◌, ◌-◌}
+use Prim.Native.Nat.{◌<◌}
 use mathlib.Core.Path.{refl}
 use lib.ListN.{length}
 use Rattle.reports.specs.Code.ElementPrices.{slope_at}

@@ -1,4 +1,4 @@
-use Prim.Native.Nat.{◌<◌, ◌-◌, min}
+use Prim.Native.Nat.{◌<◌, min}
 use mathlib.Core.Path.{refl, ap, ◌∙◌}
 use lib.ListN.{length, take, get_or}
 use lib.IntN.{ℤ, pos}

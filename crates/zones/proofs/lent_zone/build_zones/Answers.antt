@@ -1,8 +1,8 @@
 use Prim.Native.Nat.{ℕ, ◌+◌, ◌≤◌}
 use native.Mathlib.Omega.{arith}
 use native.Mathlib.Numerals.{add-one}
-use mathlib.Core.Path.{◌≡◌, refl, ap, sym, ◌∙◌, subst}
-use mathlib.Core.List.{List, ◌++◌}
+use mathlib.Core.Path.{◌≡◌, refl, ap, ◌∙◌, subst}
+use mathlib.Core.List.{◌++◌}
 use lib.ListN.{length, take, drop, length-set}
 use Rattle.zones.specs.declared.Summary.{Summary}
 use Rattle.zones.specs.declared.lent_zone.Building.{Building}

@@ -1,12 +1,7 @@
 use borrow.Author.Tests.{not-true, not-false}
 use Prim.Native.Nat.{◌≤◌}
-use mathlib.Core.Path.{◌≡◌}
-use mathlib.Core.List.{List}
 use native.Mathlib.Omega.{arith}
-use lib.ListN.{length}
 use Rattle.strokes.specs.Lent.{fractal_store}
-use Rattle.zones.specs.declared.Summary.{Summary}
-use Rattle.zones.specs.Zones.{zones}
 use Rattle.zones.specs.Code.StrokesRead.{read_run}
 use Rattle.zones.specs.ZoneRows.{zone_columns, stroke_columns}
 use Rattle.zones.proofs.ListedZoneLaws.{run_length, few-zones, zones-counted, room_built, columns-written, strokes-written, zones_full, zones-room, strokes_full, strokes-room, zones_put}

@@ -1,5 +1,4 @@
 use borrow.Author.Rules.{rules}
-use Prim.Native.Nat.{◌-◌}
 use native.Mathlib.Omega.{arith}
 use Rattle.zones.specs.ZoneRows.{stroke_columns}
 use Rattle.zones.proofs.ZoneWalks.{listed-none, listed-turn, listed-end, room-strokes}

@@ -1,4 +1,4 @@
-use Prim.Native.Nat.{◌<◌, ◌-◌}
+use Prim.Native.Nat.{◌<◌}
 use mathlib.Core.Path.{refl}
 use lib.ListN.{length}
 use Rattle.reports.specs.Code.ElementPrices.{mean_at, fit_at, snr_at, fits_at}
