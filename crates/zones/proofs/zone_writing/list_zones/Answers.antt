@@ -26,7 +26,7 @@ returns-then-not-fits c =
     let run = read_run a.stand F a.first a.count in
     let n = run_length a.stand F a.first a.count in
     let counted = zones-counted run c.read_run-run.result c.zones_of_run-built.result a.count (omega arith) n c.read_run-run.ensures c.zones_of_run-built.ensures c.zone_count-n.result c.zone_count-n.ensures in
-    zones_full run a.count c.zone_count-n.result (zone_columns a.zt.now a.zp.now a.zn.now) (stroke_columns a.bt.now a.bp.now a.bd.now) c.fits.result c.fits.result n counted c.fits.ensures (not-true _ c.if-not-fits.true-raw)
+    zones_full run a.count c.zone_count-n.result (zone_columns a.zt.now a.zp.now a.zn.now) (stroke_columns a.bt.now a.bp.now a.bd.now) c.fits.result c.fits.result n counted c.fits.ensures c.if-not-fits.true
 
 pub returns-then-not-fits-2 : goal.returns-then-not-fits-2
 returns-then-not-fits-2 c =
@@ -36,7 +36,7 @@ returns-then-not-fits-2 c =
     let run = read_run a.stand F a.first a.count in
     let n = run_length a.stand F a.first a.count in
     let counted = zones-counted run c.read_run-run.result c.zones_of_run-built.result a.count (omega arith) n c.read_run-run.ensures c.zones_of_run-built.ensures c.zone_count-n.result c.zone_count-n.ensures in
-    strokes_full run a.count c.zone_count-n.result (zone_columns a.zt.now a.zp.now a.zn.now) (stroke_columns a.bt.now a.bp.now a.bd.now) c.fits.result c.fits-2.result n counted c.fits.ensures c.fits-2.ensures (not-false _ c.if-not-fits.false-raw) (not-true _ c.if-not-fits-2.true-raw)
+    strokes_full run a.count c.zone_count-n.result (zone_columns a.zt.now a.zp.now a.zn.now) (stroke_columns a.bt.now a.bp.now a.bd.now) c.fits.result c.fits-2.result n counted c.fits.ensures c.fits-2.ensures c.if-not-fits.false c.if-not-fits-2.true
 
 pub write_zones-requires : goal.write_zones-requires
 write_zones-requires c =
@@ -48,7 +48,7 @@ write_zones-requires c =
     let d = zone_columns a.zt.now a.zp.now a.zn.now in
     let counted = zones-counted run c.read_run-run.result c.zones_of_run-built.result a.count (omega arith) n c.read_run-run.ensures c.zones_of_run-built.ensures c.zone_count-n.result c.zone_count-n.ensures in
     room_built run c.read_run-run.result c.zones_of_run-built.result a.count (omega arith) n c.read_run-run.ensures c.zones_of_run-built.ensures d
-    (zones-room run a.count c.zone_count-n.result d (stroke_columns a.bt.now a.bp.now a.bd.now) c.fits.result c.fits-2.result n counted c.fits.ensures (not-false _ c.if-not-fits.false-raw))
+    (zones-room run a.count c.zone_count-n.result d (stroke_columns a.bt.now a.bp.now a.bd.now) c.fits.result c.fits-2.result n counted c.fits.ensures c.if-not-fits.false)
 
 pub write_strokes-requires : goal.write_strokes-requires
 write_strokes-requires c =
@@ -60,7 +60,7 @@ write_strokes-requires c =
     let counted = zones-counted run c.read_run-run.result c.zones_of_run-built.result a.count (omega arith) n c.read_run-run.ensures c.zones_of_run-built.ensures c.zone_count-n.result c.zone_count-n.ensures in
     record {
       fact_1 = omega arith;
-      fact_2 = strokes-room run a.count c.zone_count-n.result (zone_columns a.zt.now a.zp.now a.zn.now) (stroke_columns a.bt.now a.bp.now a.bd.now) c.fits.result c.fits-2.result n counted c.fits.ensures c.fits-2.ensures (not-false _ c.if-not-fits-2.false-raw);
+      fact_2 = strokes-room run a.count c.zone_count-n.result (zone_columns a.zt.now a.zp.now a.zn.now) (stroke_columns a.bt.now a.bp.now a.bd.now) c.fits.result c.fits-2.result n counted c.fits.ensures c.fits-2.ensures c.if-not-fits-2.false;
     }
 
 pub returns : goal.returns
@@ -76,8 +76,8 @@ returns c =
     let read = c.read_run-run.result in
     let built = c.zones_of_run-built.result in
     let counted = zones-counted run read built a.count short n c.read_run-run.ensures c.zones_of_run-built.ensures c.zone_count-n.result c.zone_count-n.ensures in
-    let open_zones = not-false _ c.if-not-fits.false-raw in
+    let open_zones = c.if-not-fits.false in
     let room = zones-room run a.count c.zone_count-n.result d e c.fits.result c.fits-2.result n counted c.fits.ensures open_zones in
-    zones_put run a.count c.zone_count-n.result d e c.fits.result c.fits-2.result n counted c.fits.ensures c.fits-2.ensures _ _ open_zones (not-false _ c.if-not-fits-2.false-raw)
+    zones_put run a.count c.zone_count-n.result d e c.fits.result c.fits-2.result n counted c.fits.ensures c.fits-2.ensures _ _ open_zones c.if-not-fits-2.false
     (columns-written run read built a.count short n c.read_run-run.ensures c.zones_of_run-built.ensures d _ room c.write_zones.ensures)
     (strokes-written run read built a.count short n c.read_run-run.ensures c.zones_of_run-built.ensures e _ c.write_strokes.ensures)
