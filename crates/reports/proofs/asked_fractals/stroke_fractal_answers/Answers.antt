@@ -3,7 +3,6 @@ use Rattle.reports.proofs.StrokeColumns.{rows-small, lends}
 use Rattle.reports.proofs.StrengthLaws.{stroke_strength}
 use Rattle.question4.proofs.Question4Passed.{is-sound as sound-of}
 use Rattle.strokes.specs.Lent.{stores_of}
-use borrow.Author.Tests.{not-true, not-false}
 use mathlib.Core.Path.{sym, ◌∙◌}
 use Rattle.reports.proofs.asked_fractals.stroke_fractal_answers.Goals as goal
 

@@ -1,5 +1,4 @@
 use mathlib.Core.Path.{sym, ◌∙◌}
-use borrow.Author.Tests.{not-true, not-false}
 use Rattle.strokes.specs.Lent.{stores_of}
 use Rattle.reports.proofs.SeekLaws.{seek_fits, unfinished_unsound, unfinished_given}
 use Rattle.reports.proofs.StrengthLaws.{unfinished_strength}

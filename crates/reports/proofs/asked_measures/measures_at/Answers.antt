@@ -3,7 +3,6 @@ use Rattle.reports.proofs.NamedAnswers.{stroke-none, stroke-kept, stroke-after, 
 use Rattle.reports.proofs.StrokeColumns.{rows-small, lends, can_measure, shown_by}
 use Rattle.question4.proofs.Question4Passed.{is-sound as sound-of}
 use Rattle.strokes.specs.Lent.{stores_of}
-use borrow.Author.Tests.{not-true, not-false}
 use mathlib.Core.Path.{refl, sym, ◌∙◌}
 use Rattle.reports.proofs.asked_measures.measures_at.Goals as goal
 

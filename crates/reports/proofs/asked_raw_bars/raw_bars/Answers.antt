@@ -1,5 +1,4 @@
 use mathlib.Core.Path.{sym, ◌∙◌}
-use borrow.Author.Tests.{not-true, not-false}
 use Rattle.strokes.specs.Lent.{stores_of}
 use Rattle.question4.proofs.Question4Passed.{is-sound as sound-of}
 use Rattle.stores.specs.Stores.{raw_store}

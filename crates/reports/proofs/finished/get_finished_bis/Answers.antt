@@ -1,6 +1,5 @@
 use Rattle.reports.specs.Code.ListSteps.{finished_count}
 use mathlib.Core.Path.{sym, ◌∙◌}
-use borrow.Author.Tests.{not-true, not-false}
 use Rattle.reports.proofs.ListFacts.{finished_no, finished_yes}
 use Rattle.reports.proofs.finished.get_finished_bis.Goals as goal
 

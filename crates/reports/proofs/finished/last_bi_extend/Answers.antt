@@ -1,5 +1,4 @@
 use mathlib.Core.Path.{sym, ◌∙◌}
-use borrow.Author.Tests.{not-true, not-false}
 use Rattle.reports.proofs.ListFacts.{extend_no, extend_yes}
 use Rattle.question4.proofs.Question4Passed.{is-sound}
 use Rattle.reports.proofs.finished.last_bi_extend.Goals as goal

@@ -1,7 +1,6 @@
 use Rattle.reports.proofs.FxSame.{can_go, fx_no, fx_yes}
 use Rattle.question4.proofs.Question4Passed.{is-sound}
 use Rattle.strokes.specs.Lent.{stores_of}
-use borrow.Author.Tests.{not-true, not-false}
 use mathlib.Core.Path.{sym, ◌∙◌}
 use Rattle.reports.proofs.fx_answer.get_fx_list.Goals as goal
 

@@ -1,5 +1,4 @@
 use mathlib.Core.Path.{sym, ◌∙◌}
-use borrow.Author.Tests.{not-true, not-false}
 use Rattle.strokes.specs.Lent.{stores_of}
 use Rattle.reports.proofs.GapLaws.{pair_no, pair_yes, pair_listed}
 use Rattle.reports.proofs.gaps.check_gap_info.Goals as goal

@@ -1,5 +1,4 @@
 use mathlib.Core.Path.{sym, ◌∙◌}
-use borrow.Author.Tests.{not-true, not-false}
 use Rattle.strokes.specs.Lent.{stores_of}
 use Rattle.reports.proofs.GapLaws.{gaps_no, gaps-refused, gaps_yes}
 use Rattle.reports.proofs.gaps.check_gaps.Goals as goal

@@ -1,5 +1,4 @@
 use mathlib.Core.Path.{sym, ◌∙◌}
-use borrow.Author.Tests.{not-true, not-false}
 use Rattle.reports.proofs.UbiFacts.{ubi_no, ubi_yes}
 use Rattle.question4.proofs.Question4Passed.{is-sound}
 use Rattle.reports.proofs.ubi.get_ubi.Goals as goal

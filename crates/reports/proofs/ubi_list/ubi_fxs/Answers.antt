@@ -2,7 +2,6 @@ use Rattle.reports.proofs.FxSame.{can_go, fx_no}
 use Rattle.reports.proofs.UnfinishedFxs.{ubi-fxs_yes}
 use Rattle.question4.proofs.Question4Passed.{is-sound}
 use Rattle.strokes.specs.Lent.{stores_of}
-use borrow.Author.Tests.{not-true, not-false}
 use mathlib.Core.Path.{sym, ◌∙◌}
 use Rattle.reports.proofs.ubi_list.ubi_fxs.Goals as goal
 

@@ -1,4 +1,3 @@
-use borrow.Author.Tests.{not-true, not-false}
 use Rattle.zones.proofs.NamedRunLaws.{refused_4, refused_13, passed_13}
 use Rattle.zones.proofs.named_runs.run_failed.Goals as goal
 

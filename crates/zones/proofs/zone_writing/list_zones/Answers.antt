@@ -1,4 +1,3 @@
-use borrow.Author.Tests.{not-true, not-false}
 use Prim.Native.Nat.{◌≤◌}
 use native.Mathlib.Omega.{arith}
 use Rattle.strokes.specs.Lent.{fractal_store}
