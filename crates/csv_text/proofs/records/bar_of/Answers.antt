@@ -7,4 +7,4 @@ use Rattle.csv_text.proofs.records.bar_of.Goals as goal
 
 pub returns : goal.returns
 unfolding bar_in
-returns c = rw (to_z-of_z w64 c.seconds_of.result (search rules), to_z-of_z w32 c.id_of.result (search rules), c.seconds_of.ensures, c.id_of.ensures, c.value_of_lem.ensures.0, c.value_of-2.ensures.0, c.value_of-3.ensures.0, c.value_of-4.ensures.0, c.value_of-5.ensures.0, c.value_of-6.ensures.0) refl
+returns c = rw (to_z-of_z w64 c.seconds_of.result (search rules), to_z-of_z w32 c.id_of.result (search rules), c.seconds_of.ensures, c.id_of.ensures, c.value_of.ensures.0, c.value_of-2.ensures.0, c.value_of-3.ensures.0, c.value_of-4.ensures.0, c.value_of-5.ensures.0, c.value_of-6.ensures.0) refl

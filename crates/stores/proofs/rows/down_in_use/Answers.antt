@@ -12,3 +12,14 @@ returns c =
     let a = c.args in
     let l = c.loop-i in
     rows_end a.cs.now a.es.now a.at a.cs.now a.es.now a.from l.i a.n l.cs l.es l.invariant.1 (search rules) (search rules)
+
+pub loop-i-preserved : goal.loop-i-preserved
+loop-i-preserved c =
+    let a = c.args in
+    let l = c.loop-i in
+    let r = c.move_row.ensures in (
+      search rules,
+      down-rows-turn a.cs.now a.es.now l.cs l.es _ a.at a.from l.i _ l.invariant.1 l.invariant.2 (search rules) (search rules) (search rules) refl r.0 r.1,
+      search rules,
+      search rules,
+    )

@@ -14,15 +14,15 @@ pub loop-k-init : goal.loop-k-init
 loop-k-init c = let a = c.args in (search rules, row-none a.es.now a.at (get_or a.es.now a.from []), refl)
 
 pub offset_bounds-es-k : goal.offset_bounds-es-k
-offset_bounds-es-k c = let k = index-2-time c in search rules
+offset_bounds-es-k c = let r = c.in_row-arg-4-1.given in omega arith
 
 pub offset_bounds-es-k-in-loop-k : goal.offset_bounds-es-k-in-loop-k
-offset_bounds-es-k-in-loop-k c = let k = index-2-time c.before in search rules
+offset_bounds-es-k-in-loop-k c = let r = c.in_row-arg-4-1.given in omega arith
 
 pub loop-k-preserved : goal.loop-k-preserved
 loop-k-preserved c =
-    let q = c.in_row-arg-2-1.given.0 in
-    let r = c.in_row-arg-4-1.given.0 in
+    let q = c.in_row-arg-2-1.given in
+    let r = c.in_row-arg-4-1.given in
     let m = c.in_row-m.ensures in
     let n = c.in_row-n.ensures in
     let a = c.args in
@@ -34,8 +34,8 @@ loop-k-preserved c =
 
 pub returns : goal.returns
 returns c =
-    let q = c.in_row-arg-2-1.given.0 in
-    let r = c.in_row-arg-4-1.given.0 in
+    let q = c.in_row-arg-2-1.given in
+    let r = c.in_row-arg-4-1.given in
     let m = c.in_row-m.ensures in
     let n = c.in_row-n.ensures in
     let a = c.args in
