@@ -1,6 +1,6 @@
-use Prim.Native.Nat.{◌+◌, ◌-◌}
+use Prim.Native.Nat.{◌+◌}
 use native.Mathlib.Omega.{arith}
-use mathlib.Core.Bool.{true, false}
+use mathlib.Core.Bool.{true}
 use Rattle.machine.specs.declared.Mark.TheVariants.{D}
 use Rattle.check_bi.specs.Code.Windows.{taken_at}
 use Rattle.check_bi.specs.Code.View.{view}
