@@ -20,8 +20,11 @@ pub check_fxs-m-requires : goal.check_fxs-m-requires
 check_fxs-m-requires c = let a = c.args in
     let p = c.requires in
     let e = c.windows_end-end.ensures in
-    record { fact_1 = end_after a.self _ _ _ a.first a.bars p.fact_2 p.fact_1 c.windows_end-end.result e; fact_2 = window_room a.self _ _ _ a.first a.bars p.fact_2 p.fact_1 c.windows_end-end.result e;
-      fact_3 = fractal-room a.self _ _ _ a.first a.bars p.fact_2 p.fact_1 c.windows_end-end.result c.total_bars-used.result e c.total_bars-used.ensures }
+    record {
+      fact_1 = end_after a.self _ _ _ a.first a.bars p.fact_2 p.fact_1 c.windows_end-end.result e;
+      fact_2 = window_room a.self _ _ _ a.first a.bars p.fact_2 p.fact_1 c.windows_end-end.result e;
+      fact_3 = fractal-room a.self _ _ _ a.first a.bars p.fact_2 p.fact_1 c.windows_end-end.result c.total_bars-used.result e c.total_bars-used.ensures;
+    }
 
 pub with_stroke-requires : goal.with_stroke-requires
 with_stroke-requires c =

@@ -5,7 +5,6 @@ use Rattle.machine.specs.declared.Mark.TheVariants.{D}
 use Rattle.stores.specs.Stores.{raw_store}
 use mathlib.Core.Path.{refl}
 use native.Mathlib.Omega.{arith}
-use Prim.Native.Nat.{◌-◌}
 use borrow.Author.Rules.{rules}
 use Rattle.strokes.proofs.strokes_store.check_fxs.Goals as goal
 

@@ -1,4 +1,4 @@
-use Rattle.strokes.proofs.MovedFractals.{NextFits, next_fits, move-turn, move-end}
+use Rattle.strokes.proofs.MovedFractals.{next_fits, move-turn, move-end}
 use Rattle.strokes.specs.Code.StrokeSteps.{copied_fractals, moved_fractals}
 use Rattle.strokes.specs.Lent.{fractal_store}
 use lib.ListN.{length}

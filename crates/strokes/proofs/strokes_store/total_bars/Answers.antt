@@ -4,7 +4,6 @@ use lib.ListN.{length, take}
 use mathlib.Core.Path.{◌≡◌}
 use native.Mathlib.Omega.{arith}
 use native.Mathlib.Nat.{zero-add}
-use Prim.Native.Nat.{◌-◌}
 use borrow.Author.Rules.{rules}
 use Rattle.strokes.proofs.strokes_store.total_bars.Goals as goal
 
