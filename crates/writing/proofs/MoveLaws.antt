@@ -1,15 +1,15 @@
 -- The stroke that is found is put on, and the unfinished bars are left behind it, or joined with a broken stroke's: what is read then is what the plain
 -- machine's move leaves, but for the elements of fractals' bars. Assumes nothing.
-use Prim.Native.Nat.{ℕ, zero, suc, ◌+◌, ◌-◌, ◌<◌, ◌≤◌}
+use Prim.Native.Nat.{ℕ, zero, suc, ◌+◌, ◌-◌, ◌≤◌}
 use native.Mathlib.Omega.{arith}
 use mathlib.Core.Path.{◌≡◌, refl, ap, sym, ◌∙◌, subst}
 use mathlib.Core.Bool.{Bool, true, false}
-use mathlib.Core.List.{List, [], ◌∷◌, ◌++◌, map}
+use mathlib.Core.List.{List, [], ◌∷◌, map}
 use mathlib.Core.Option
 use mathlib.Core.Option.{Option, none, some}
-use lib.ListN.{length, take, drop, get_or, length-map, length-take, length-append}
-use lib.Seq.{length-take-le, take-suc}
-use lib.Dec.{T, leb, leb→le, ltb}
+use lib.ListN.{length, take, drop, get_or, length-map, length-append}
+use lib.Seq.{length-take-le}
+use lib.Dec.{T, leb→le, ltb}
 use Rattle.bars.specs.Bars.{Merged}
 use Rattle.bars.specs.Lists.{last, init}
 use Rattle.stores.specs.Stores.{MergedStore, raw_store, merged_bars}

@@ -1,11 +1,9 @@
 -- The bars that a plan leaves begin inside the view that it was made of. Assumes nothing.
 use Prim.Native.Nat.{ℕ, ◌+◌, ◌≤◌}
 use native.Mathlib.Omega.{arith}
-use mathlib.Core.Path.{◌≡◌, refl, ap, sym, ◌∙◌, subst}
 use mathlib.Core.Bool.{Bool, true, false, not, ◌&&◌}
 use mathlib.Core.List.{List, [], ◌∷◌}
 use lib.ListN.{length, drop, length-drop}
-use lib.IntN.{ℤ}
 use lib.Dec.{eqb, leb, ltb}
 use Rattle.machine.specs.declared.Mark.TheVariants.{D, G}
 use Rattle.machine.specs.Fractals.{same_mark, beyond}

@@ -1,7 +1,6 @@
 -- A bar is merged into the unfinished store: where it is later, and where it replaces the last one. Assumes nothing.
 use mathlib.Core.Bool.{Bool, true, false}
-use mathlib.Core.List.{List}
-use mathlib.Core.Path.{◌≡◌, refl, ap, sym, subst}
+use mathlib.Core.Path.{◌≡◌, ap, sym, subst}
 use Rattle.bars.specs.declared.Bar.{Bar}
 use Rattle.bars.specs.Merging.{merge_in}
 use Rattle.stores.specs.Stores.{RawStore, MergedStore}

@@ -1,16 +1,15 @@
 -- The writing steps of a feed, one after the other, are the plain machine's step. Assumes nothing.
-use Prim.Native.Nat.{ℕ, zero, suc, ◌+◌, ◌-◌, ◌<◌, ◌≤◌}
+use Prim.Native.Nat.{ℕ, zero, suc, ◌+◌, ◌<◌, ◌≤◌}
 use native.Mathlib.Omega.{arith}
 use mathlib.Core.Path.{◌≡◌, refl, ap, sym, ◌∙◌, subst}
 use mathlib.Core.Bool.{Bool, true, false, ◌&&◌, cond}
-use mathlib.Core.List.{List, [], ◌∷◌, ◌++◌, map}
-use mathlib.Core.Option.{Option, none, some}
-use lib.ListN.{length, take, drop, get_or, length-map, length-drop}
+use mathlib.Core.List.{List, [], ◌∷◌, map}
+use lib.ListN.{length, take, get_or, length-map, length-drop}
 use lib.IntN.{ℤ, pos}
 use lib.Signed.{lt_z}
 use lib.Dec.{T, leb, ltb, eqb, leb→le, ltb→lt}
 use lib.Ieee.Fits.{and_i, and_l, and_r}
-use borrow.Author.Tests.{le-leb, eq-eqb, ltb-true, ltb-false}
+use borrow.Author.Tests.{le-leb, eq-eqb, ltb-false}
 use Rattle.bars.specs.declared.Bar.{Bar}
 use Rattle.bars.specs.Bars.{Merged}
 use Rattle.bars.specs.Lists.{every, last, skip_while}

@@ -1,6 +1,6 @@
 -- What a feed would do to the strokes and to the unfinished bars, by places of the unfinished bars after merging, and questions 11 and 12, asked of that.
 -- That it is what Feed's make and move do is a theorem of proofs/. Definitions only.
-use Rattle.std.specs.Prelude.{ℕ, ◌+◌, ◌-◌, ◌≤◌, Bool, true, false, ◌&&◌, List, [], map, ◌≡◌, length, drop, get_or, ℤ, pos, eqb, leb, ltb}
+use Rattle.std.specs.Prelude.{ℕ, ◌+◌, ◌-◌, ◌≤◌, Bool, true, false, ◌&&◌, List, [], map, length, drop, get_or, ℤ, pos, eqb, leb, ltb}
 use Rattle.std.specs.Float.Ieee.{lt}
 use Rattle.arith.specs.Order.{max_of, min_of}
 use Rattle.stores.specs.Code.StoreRows.{place_of}

@@ -1,5 +1,5 @@
 -- What a feed of a bar that passed its questions writes to the lent stores: the plain machine's step. Definitions only.
-use Rattle.std.specs.Prelude.{ℕ, ◌≤◌, ◌<◌, Bool, true, false, List, map, ◌≡◌, length, T, ltb}
+use Rattle.std.specs.Prelude.{ℕ, ◌≤◌, ◌<◌, Bool, List, map, ◌≡◌, length, T, ltb}
 use Rattle.bars.specs.declared.Bar.{Bar}
 use Rattle.bars.specs.Bars.{Merged}
 use Rattle.bars.specs.Lists.{every, last}

@@ -1,9 +1,8 @@
-use Prim.Native.Nat.{ℕ}
-use Rattle.writing.proofs.MoveLaws.{can_make, can_leave, has_left, left-sized}
+use Rattle.writing.proofs.MoveLaws.{can_make, can_leave, has_left}
 use Rattle.strokes.specs.Lent.{fractal_store}
 use Rattle.stores.specs.Stores.{merged_store}
 use lib.ListN.{length}
-use mathlib.Core.Path.{◌≡◌, sym, ◌∙◌, ap}
+use mathlib.Core.Path.{◌≡◌}
 use Rattle.writing.proofs.stroke_moves.make_and_leave.Goals as goal
 
 -- ---- what is needed

@@ -1,9 +1,8 @@
-use Prim.Native.Nat.{ℕ}
 use Rattle.writing.proofs.MoveLaws.{has_moved}
 use Rattle.strokes.specs.Lent.{fractal_store}
 use Rattle.stores.specs.Stores.{merged_store}
 use lib.ListN.{length}
-use mathlib.Core.Path.{◌≡◌, refl, sym, ◌∙◌, ap}
+use mathlib.Core.Path.{◌≡◌, refl, ◌∙◌}
 use Rattle.writing.proofs.stroke_moves.update_bi.Goals as goal
 
 -- ---- what is needed

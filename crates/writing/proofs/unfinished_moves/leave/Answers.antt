@@ -1,9 +1,9 @@
 use Rattle.writing.proofs.StepLaws.{left-breaks, left-joined, left_as_is, left-elements}
 use Rattle.writing.specs.Code.WriteSteps.{rest_of}
-use Rattle.strokes.specs.Code.BarSteps.{without_last, kept_unfinished, with_unfinished}
+use Rattle.strokes.specs.Code.BarSteps.{kept_unfinished, with_unfinished}
 use Rattle.stores.specs.Stores.{merged_store}
 use lib.ListN.{drop}
-use mathlib.Core.Path.{refl, sym, ◌∙◌}
+use mathlib.Core.Path.{refl, ◌∙◌}
 use native.Mathlib.Omega.{arith}
 use Rattle.writing.proofs.unfinished_moves.leave.Goals as goal
 
