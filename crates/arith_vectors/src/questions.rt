@@ -1,6 +1,6 @@
 // A line's question and its answer.
-use libc::STDOUT_FILENO;
 use lines::{Bits, float_of, is_word, show, value_at, word_end};
+use std::io::Stdout;
 
 #[derive(Clone, Copy)]
 enum Kind {
@@ -247,30 +247,30 @@ fn ask_places(line: &[u8], from: usize) -> Answer {
     Answer::Is(arith::round_to_nth_digit(float_of(bits), (d - 48) as usize))
 }
 
-fn say(answer: Answer, number: u64) {
+fn say(to: Stdout, answer: Answer, number: u64) {
     match answer {
         Answer::Is(x) => {
-            show(x);
-            io::write_all(STDOUT_FILENO, b"\n");
+            show(to, x);
+            let _ = to.write_all(b"\n");
         }
         Answer::Long => {
-            io::write_all(STDOUT_FILENO, b"too long\n");
+            let _ = to.write_all(b"too long\n");
         }
         Answer::Bad => {
-            io::write_all(STDOUT_FILENO, b"bad line ");
-            io::print_decimal(STDOUT_FILENO, number);
-            io::write_all(STDOUT_FILENO, b"\n");
+            let _ = to.write_all(b"bad line ");
+            let _ = to.print(number);
+            let _ = to.write_all(b"\n");
         }
     }
 }
 
 // Writes the answer to the line with this number.
-pub fn reply(line: &[u8], number: u64) {
+pub fn reply(to: Stdout, line: &[u8], number: u64) {
     let n = word_end(line, 0);
     let kind = kind_of(&line[..n]);
     match kind {
-        Kind::Unknown => say(Answer::Bad, number),
-        Kind::Places => say(ask_places(line, n), number),
-        _ => say(ask(kind, line, n), number),
+        Kind::Unknown => say(to, Answer::Bad, number),
+        Kind::Places => say(to, ask_places(line, n), number),
+        _ => say(to, ask(kind, line, n), number),
     }
 }

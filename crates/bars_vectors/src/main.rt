@@ -11,10 +11,11 @@
 mod answers;
 
 use lines::{Buffer, Buffered, Cursor};
+use std::io::Stdout;
 
-fn answered(out: &mut Buffer, text: &[u8], cursor: Cursor) -> Buffered {
+fn answered(to: Stdout, out: &mut Buffer, text: &[u8], cursor: Cursor) -> Buffered {
     let n = lines::asked(text, cursor);
-    let o = lines::nothing_buffered();
+    let o = lines::nothing_buffered(to);
     if n == 0 {
         return o;
     }
@@ -25,21 +26,22 @@ fn answered(out: &mut Buffer, text: &[u8], cursor: Cursor) -> Buffered {
 }
 
 // Writes the answer to the line.
-fn answer(text: &[u8], cursor: Cursor) {
-    let mut out = io::large_buffer();
-    let o = answered(&mut out, text, cursor);
+fn answer(to: Stdout, text: &[u8], cursor: Cursor) {
+    let mut out = lines::large_buffer();
+    let o = answered(to, &mut out, text, cursor);
     lines::flush(&out, o);
 }
 
-fn main() {
-    let mut bytes = io::large_buffer();
-    let mut text = io::large_buffer();
-    let mut cursor = lines::first_line();
+fn main(rt: HostRuntime) {
+    let to = rt.stdout();
+    let mut bytes = lines::large_buffer();
+    let mut text = lines::large_buffer();
+    let mut cursor = lines::first_line(rt.stdin());
     // A proved loop has to end, and nothing says that the input does. So it counts down from a number that no run uses up.
     let mut turns = u64::MAX;
     while turns > 0 && cursor.open {
         turns -= 1;
         cursor = lines::next_line(&mut bytes, &mut text, cursor);
-        answer(&text, cursor);
+        answer(to, &text, cursor);
     }
 }

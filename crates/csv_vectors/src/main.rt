@@ -12,10 +12,17 @@
 mod questions;
 
 use lines::{Buffer, Buffered, Cursor};
+use std::io::Stdout;
 
-fn answered(out: &mut Buffer, text: &mut [u8], cursor: Cursor, number: u64) -> Buffered {
+fn answered(
+    to: Stdout,
+    out: &mut Buffer,
+    text: &mut [u8],
+    cursor: Cursor,
+    number: u64,
+) -> Buffered {
     let n = lines::asked(text, cursor);
-    let o = lines::nothing_buffered();
+    let o = lines::nothing_buffered(to);
     if n == 0 {
         return o;
     }
@@ -26,21 +33,22 @@ fn answered(out: &mut Buffer, text: &mut [u8], cursor: Cursor, number: u64) -> B
 }
 
 // Writes the answer to the line with this number.
-fn answer(text: &mut [u8], cursor: Cursor, number: u64) {
-    let mut out = io::large_buffer();
-    let o = answered(&mut out, text, cursor, number);
+fn answer(to: Stdout, text: &mut [u8], cursor: Cursor, number: u64) {
+    let mut out = lines::large_buffer();
+    let o = answered(to, &mut out, text, cursor, number);
     lines::flush(&out, o);
 }
 
-fn main() {
-    let mut bytes = io::large_buffer();
+fn main(rt: HostRuntime) {
+    let to = rt.stdout();
+    let mut bytes = lines::large_buffer();
     let mut text = [0u8; 2200000];
-    let mut cursor = lines::first_line();
+    let mut cursor = lines::first_line(rt.stdin());
     // A proved loop has to end, and nothing says that the input does. So it counts the lines, up to a number that no run reaches.
     let mut number: u64 = 0;
     while number < u64::MAX && cursor.open {
         number += 1;
         cursor = lines::next_line(&mut bytes, &mut text, cursor);
-        answer(&mut text, cursor, number);
+        answer(to, &mut text, cursor, number);
     }
 }

@@ -1,8 +1,8 @@
 -- Which patterns and which floats are a NaN's, by the tests of src/floats.rt. Assumes nothing.
 use mathlib.Core.Path.{◌≡◌, refl, sym, subst, ◌∙◌}
-use mathlib.Core.Bool.{Bool, true, false, not, true≢false}
+use mathlib.Core.Bool.{Bool, false, not, true≢false}
 use Prim.Native.Nat.{ℕ, ◌%◌, ◌<◌, ◌≤◌}
-use lib.Dec.{T, ltb, lt→ltb}
+use lib.Dec.{T, lt→ltb}
 use lib.Ieee.{Float, nan, inf, fin, binary64, div, ne, is_nan, nan_bits, of_bits}
 use lib.Ieee.Bits.{nan_bits_is, nan_bits_above}
 use lib.Ieee.Compare.{nan_differs}

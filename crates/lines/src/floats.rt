@@ -3,7 +3,8 @@ ghost use Rattle.std.specs.Prelude.{◌≡◌};
 ghost use Rattle.std.specs.Float.{binary64};
 ghost use Rattle.std.specs.Float.Ieee.{of_bits};
 
-use crate::output::{Buffer, Buffered, flush, nothing_buffered, put, put_hex};
+use crate::output::{Buffer, Buffered, flush, large_buffer, nothing_buffered, put, put_hex};
+use std::io::Stdout;
 
 #[derive(Clone, Copy)]
 pub enum Bits {
@@ -82,8 +83,8 @@ pub fn put_float(out: &mut Buffer, o: Buffered, x: f64) -> Buffered {
 }
 
 // Writes them at once.
-pub fn show(x: f64) {
-    let mut out = io::large_buffer();
-    let o = put_float(&mut out, nothing_buffered(), x);
+pub fn show(to: Stdout, x: f64) {
+    let mut out = large_buffer();
+    let o = put_float(&mut out, nothing_buffered(to), x);
     flush(&out, o);
 }

@@ -1,12 +1,13 @@
 // Lines from standard input, one at a time.
 ghost use Rattle.std.specs.Prelude.{◌≤◌, length};
 
-use libc::STDIN_FILENO;
+use std::io::{Read, Stdin};
 
-// Where the reading stands: the next byte and the number of bytes read into the buffer; of the line, how many bytes are kept and whether
+// Where the reading stands: the input that is read; the next byte and the number of bytes read into the buffer; of the line, how many bytes are kept and whether
 // it had more; whether the line goes on, whether the input may, and whether a read failed.
 #[derive(Clone, Copy)]
 pub struct Cursor {
+    pub from: Stdin,
     pub at: usize,
     pub filled: usize,
     pub len: usize,
@@ -16,8 +17,9 @@ pub struct Cursor {
     pub failed: bool,
 }
 
-pub fn first_line() -> Cursor {
+pub fn first_line(from: Stdin) -> Cursor {
     Cursor {
+        from,
         at: 0,
         filled: 0,
         len: 0,
@@ -55,12 +57,13 @@ fn step(bytes: &mut [u8], text: &mut [u8], c: Cursor) -> Cursor {
             return take(text, c, b, at + 1);
         }
     }
-    let got = libc::read(STDIN_FILENO, bytes);
-    refilled(c, got, io::count(got, bytes))
+    let mut from = c.from;
+    let got = from.read(bytes);
+    refilled(c, got.is_err(), got.unwrap_or(0))
 }
 
-// After a read that answered `got` and gave n bytes: below 0 it failed, and at 0 the input has ended. What a failed read cuts off is no line.
-fn refilled(c: Cursor, got: isize, n: usize) -> Cursor {
+// After a read that gave n bytes: at 0 it failed, where `failed` says so, or the input has ended. What a failed read cuts off is no line.
+fn refilled(c: Cursor, failed: bool, n: usize) -> Cursor {
     let mut next = c;
     next.at = 0;
     next.filled = n;
@@ -69,7 +72,7 @@ fn refilled(c: Cursor, got: isize, n: usize) -> Cursor {
     }
     next.going = false;
     next.open = false;
-    if got < 0 {
+    if failed {
         next.failed = true;
         next.len = 0;
     }

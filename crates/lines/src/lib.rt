@@ -14,6 +14,6 @@ pub use numbers::{
     Small, Whole, WholeAt, put_small, put_whole, small_of, whole_at, whole_of, write_whole,
 };
 pub use output::{
-    Buffer, Buffered, flush, flush_before_reading, nothing_buffered, put, put_decimal,
+    Buffer, Buffered, flush, flush_before_reading, large_buffer, nothing_buffered, put, put_decimal,
 };
 pub use words::{is_word, word_end};

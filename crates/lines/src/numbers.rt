@@ -1,8 +1,9 @@
 // Whole numbers as text.
 ghost use Rattle.std.specs.Prelude.{◌≤◌};
 
-use crate::output::{Buffer, Buffered, flush, nothing_buffered, put, put_decimal};
+use crate::output::{Buffer, Buffered, flush, large_buffer, nothing_buffered, put, put_decimal};
 use crate::words::word_end;
+use std::io::Stdout;
 
 #[derive(Clone, Copy)]
 pub enum Whole {
@@ -105,9 +106,9 @@ pub fn put_whole(out: &mut Buffer, o: Buffered, t: i64) -> Buffered {
 }
 
 // Writes it at once.
-pub fn write_whole(t: i64) {
-    let mut out = io::large_buffer();
-    let o = put_whole(&mut out, nothing_buffered(), t);
+pub fn write_whole(to: Stdout, t: i64) {
+    let mut out = large_buffer();
+    let o = put_whole(&mut out, nothing_buffered(to), t);
     flush(&out, o);
 }
 

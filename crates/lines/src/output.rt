@@ -1,19 +1,30 @@
 // What a program writes to standard output, put together in a buffer and written in few calls.
+ghost use Rattle.std.specs.Prelude.{◌≡◌, length};
+
 use crate::input::Cursor;
-use libc::STDOUT_FILENO;
+use std::io::Stdout;
 
 // Where a program's answers are put together.
 pub type Buffer = [u8; 65536];
 
-// How many bytes of the buffer wait to be written, and whether a write failed. After that nothing is written any more.
+// 65,536 zeros.
+pub fn large_buffer() -> Buffer
+    ensures { 65536 ≡ length result }
+{
+    [0; 65536]
+}
+
+// Where it is written, how many bytes of the buffer wait to be written, and whether a write failed. After that nothing is written any more.
 #[derive(Clone, Copy)]
 pub struct Buffered {
+    pub to: Stdout,
     pub used: usize,
     pub failed: bool,
 }
 
-pub fn nothing_buffered() -> Buffered {
+pub fn nothing_buffered(to: Stdout) -> Buffered {
     Buffered {
+        to,
         used: 0,
         failed: false,
     }
@@ -24,18 +35,20 @@ pub fn flush(out: &Buffer, o: Buffered) -> Buffered {
     if o.failed {
         return o;
     }
+    let to = o.to;
     Buffered {
+        to,
         used: 0,
-        failed: !written(out, o.used),
+        failed: !written(to, out, o.used),
     }
 }
 
 // Whether the first n bytes of `out` could be written.
-fn written(out: &[u8], n: usize) -> bool {
+fn written(to: Stdout, out: &[u8], n: usize) -> bool {
     if out.len() < n {
         return false;
     }
-    io::write_all(STDOUT_FILENO, &out[..n])
+    to.write_all(&out[..n]).is_ok()
 }
 
 // A full buffer is written.
@@ -67,15 +80,15 @@ pub fn put(out: &mut Buffer, o: Buffered, text: &[u8]) -> Buffered {
 }
 
 pub fn put_decimal(out: &mut Buffer, o: Buffered, n: u64) -> Buffered {
-    let mut text = [0u8; 20];
-    let k = io::decimal(n, &mut text);
-    put(out, o, &text[..k])
+    let mut text = itoa::Buffer::new();
+    put(out, o, text.format(n).as_bytes())
 }
 
+// The 16 digits of its bytes, the greatest byte first.
 pub fn put_hex(out: &mut Buffer, o: Buffered, n: u64) -> Buffered {
     let mut text = [0u8; 16];
-    let k = io::hex(n, 16, &mut text);
-    put(out, o, &text[..k])
+    let _ = hex::encode_to_slice(n.to_be_bytes(), &mut text);
+    put(out, o, &text)
 }
 
 // Whether a line feed stands among the bytes that are read and not yet taken: then the next line comes with no wait.

@@ -1,6 +1,6 @@
 // The answer to a call.
 ghost use Rattle.from_fresh.specs.FromFresh.{FromFresh};
-ghost use Rattle.strokes.specs.Lent.{after, stores_lent};
+ghost use Rattle.strokes.specs.Lent.{held, after};
 
 use crate::calls::Call;
 use crate::reading::Player;
@@ -217,85 +217,7 @@ pub fn turn(
     fs: &mut [[i64; 6]],
     fp: &mut [[f64; 18]],
 ) -> Played
-    requires { FromFresh stand (stores_lent rt ri rp ut ui up uc ue st si sp sc se fs fp) }
-    ensures { FromFresh result.stand (after rt ri rp ut ui up uc ue st si sp sc se fs fp) }) -> Player {
-    let call = p.call;
-    let kind = call.kind;
-    if kind == 0 {
-        return bad(out, p);
-    }
-    if kind == 5 {
-        return p;
-    }
-    if kind == 1 {
-        let r = sound::fresh(
-            call.minimum,
-            call.most,
-            call.power,
-            call.ratio,
-            rt,
-            ri,
-            rp,
-            ut,
-            ui,
-            up,
-            uc,
-            ue,
-            st,
-            si,
-            sp,
-            sc,
-            se,
-            fs,
-            fp,
-        );
-        return started(out, p, r.refused);
-    }
-    if p.ready {
-        return shown(
-            out, p, stand, rt, ri, rp, ut, ui, up, uc, ue, st, si, sp, sc, se, fs, fp,
-        );
-    }
-    refused(out, p, 4)
-}
-
-fn is_feed(p: Player) -> bool {
-    let call = p.call;
-    if p.ready {
-        return call.kind == 2;
-    }
-    false
-}
-
-// The player and the stand after a call.
-#[derive(Clone, Copy)]
-pub struct Played {
-    pub player: Player,
-    pub stand: Stand,
-}
-
-// The answer to the player's call. The stand and the stores come from a fresh analyzer by feeds, and so do those that it leaves: of question 4 a feed then asks only the clause that can fail.
-pub fn turn(
-    out: &mut Buffer,
-    p: Player,
-    stand: Stand,
-    rt: &mut [i64],
-    ri: &mut [i32],
-    rp: &mut [[f64; 6]],
-    ut: &mut [i64],
-    ui: &mut [i32],
-    up: &mut [[f64; 6]],
-    uc: &mut [usize],
-    ue: &mut [[i64; 101]],
-    st: &mut [i64],
-    si: &mut [i32],
-    sp: &mut [[f64; 6]],
-    sc: &mut [usize],
-    se: &mut [[i64; 101]],
-    fs: &mut [[i64; 6]],
-    fp: &mut [[f64; 18]],
-) -> Played
-    requires { FromFresh stand (stores_lent rt ri rp ut ui up uc ue st si sp sc se fs fp) }
+    requires { FromFresh stand (held rt ri rp ut ui up uc ue st si sp sc se fs fp) }
     ensures { FromFresh result.stand (after rt ri rp ut ui up uc ue st si sp sc se fs fp) }
 {
     if is_feed(p) {

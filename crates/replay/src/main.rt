@@ -12,11 +12,11 @@ mod answers;
 mod calls;
 mod reading;
 
-fn main() {
-    let mut bytes = io::large_buffer();
-    let mut line = io::large_buffer();
-    let mut out = io::large_buffer();
-    let mut now = reading::beginning();
+fn main(rt: HostRuntime) {
+    let mut bytes = lines::large_buffer();
+    let mut line = lines::large_buffer();
+    let mut out = lines::large_buffer();
+    let mut now = reading::beginning(rt.stdin(), rt.stdout(), rt.stderr());
     // A proved loop has to end, and nothing says that the input does. So it counts down from a number that no run uses up.
     let mut turns = u64::MAX;
     while turns > 0 && now.anew {

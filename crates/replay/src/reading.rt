@@ -1,16 +1,17 @@
 // What is carried from line to line.
 use crate::calls::{Call, call_of, plain_call};
-use libc::STDERR_FILENO;
 use lines::{Buffer, Buffered, Cursor};
+use std::io::{Stderr, Stdin, Stdout};
 use strokes::Rooms;
 
-// Where the reading stands, the number of lines read, how the answers are written, and the call of the last line; whether an `n` was accepted; whether the analyzer goes on with the next line, and
+// Where the reading stands, the number of lines read, how the answers are written, where it is told what could not be read or written, and the call of the last line; whether an `n` was accepted; whether the analyzer goes on with the next line, and
 // whether one more is to be made, of that call.
 #[derive(Clone, Copy)]
 pub struct Player {
     pub cursor: Cursor,
     pub lines: u64,
     pub output: Buffered,
+    pub errors: Stderr,
     pub call: Call,
     pub ready: bool,
     pub going: bool,
@@ -67,6 +68,7 @@ impl Player {
             cursor,
             lines: one_more(self.lines),
             output,
+            errors: self.errors,
             call,
             ready: self.ready,
             going: cursor.open,
@@ -83,9 +85,9 @@ fn one_more(n: u64) -> u64 {
 }
 
 // Before the first line the analyzer is one over all of the program's stores, which no call reaches before an `n` is accepted.
-pub fn beginning() -> Player {
-    let cursor = lines::first_line();
-    let output = lines::nothing_buffered();
+pub fn beginning(from: Stdin, to: Stdout, errors: Stderr) -> Player {
+    let cursor = lines::first_line(from);
+    let output = lines::nothing_buffered(to);
     let rooms = Rooms {
         raw: 4096,
         unfinished: 1024,
@@ -97,6 +99,7 @@ pub fn beginning() -> Player {
         cursor,
         lines: 0,
         output,
+        errors,
         call,
         ready: false,
         going: true,
@@ -117,15 +120,15 @@ pub fn next_call(out: &Buffer, bytes: &mut [u8], line: &mut [u8], p: Player) -> 
     p.asked(cursor, call, o)
 }
 
-fn say_unread(c: Cursor) {
+fn say_unread(to: Stderr, c: Cursor) {
     if c.failed {
-        io::write_all(STDERR_FILENO, b"replay: standard input can't be read\n");
+        let _ = to.write_all(b"replay: standard input can't be read\n");
     }
 }
 
-fn say_unwritten(o: Buffered) {
+fn say_unwritten(to: Stderr, o: Buffered) {
     if o.failed {
-        io::write_all(STDERR_FILENO, b"replay: standard output can't be written\n");
+        let _ = to.write_all(b"replay: standard output can't be written\n");
     }
 }
 
@@ -137,7 +140,8 @@ pub fn finished(out: &Buffer, p: Player) -> Player {
     let c = p.cursor;
     let o = p.output;
     let o = lines::flush(out, o);
-    say_unread(c);
-    say_unwritten(o);
+    let to = p.errors;
+    say_unread(to, c);
+    say_unwritten(to, o);
     p.said(o)
 }

@@ -19,31 +19,32 @@
 mod answers;
 mod items;
 
-use libc::STDOUT_FILENO;
 use lines::Cursor;
+use std::io::Stdout;
 
 // Writes the answer to the line with this number.
-fn answer(text: &[u8], cursor: Cursor, number: u64) {
+fn answer(to: Stdout, text: &[u8], cursor: Cursor, number: u64) {
     let n = lines::asked(text, cursor);
     if n == 0 {
         return;
     }
     if cursor.long {
-        io::write_all(STDOUT_FILENO, b"too long\n");
+        let _ = to.write_all(b"too long\n");
         return;
     }
-    answers::reply(&text[..n], number);
+    answers::reply(to, &text[..n], number);
 }
 
-fn main() {
-    let mut bytes = io::large_buffer();
-    let mut text = io::large_buffer();
-    let mut cursor = lines::first_line();
+fn main(rt: HostRuntime) {
+    let to = rt.stdout();
+    let mut bytes = lines::large_buffer();
+    let mut text = lines::large_buffer();
+    let mut cursor = lines::first_line(rt.stdin());
     // A proved loop has to end, and nothing says that the input does. So it counts the lines, up to a number that no run reaches.
     let mut number: u64 = 0;
     while number < u64::MAX && cursor.open {
         number += 1;
         cursor = lines::next_line(&mut bytes, &mut text, cursor);
-        answer(&text, cursor, number);
+        answer(to, &text, cursor, number);
     }
 }
