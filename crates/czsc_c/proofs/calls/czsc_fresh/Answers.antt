@@ -2,19 +2,16 @@ use Rattle.czsc_c.proofs.HandedLaws.{fresh-refused, fresh_no_place, fresh_handed
 use Rattle.strokes.proofs.PackedRows.{there}
 use borrow.Author.Tests.{not-true, not-false}
 use mathlib.Core.Path.{sym, ◌∙◌}
-use Rattle.sound.proofs.fresh.Reads as fresh-reads
-use Rattle.strokes.proofs.pack.Reads as pack-reads
-use Rattle.strokes.proofs.rows_there.Reads as rows-there-reads
 use Rattle.czsc_c.proofs.calls.czsc_fresh.Goals as goal
 
 pub returns-then-failed-ne0 : goal.returns-then-failed-ne0
 returns-then-failed-ne0 c = fresh-refused c.fresh-r.result _ _ _ c.fresh-r.ensures c.if-failed-ne0.true
 
 pub returns-then-not-rows_there : goal.returns-then-not-rows_there
-returns-then-not-rows_there c = fresh_no_place c.fresh.result _ _ _ c.fresh.ensures c.if1.false (sym c.rows_there.ensures ∙ not-true _ c.if-not-rows_there.true-raw)
+returns-then-not-rows_there c = fresh_no_place c.fresh-r.result _ _ _ c.fresh-r.ensures c.if-failed-ne0.false (sym c.rows_there.ensures ∙ not-true _ c.if-not-rows_there.true-raw)
 
 pub pack-requires : goal.pack-requires
 pack-requires c = there _ _ (sym c.rows_there.ensures ∙ not-false _ c.if-not-rows_there.false-raw)
 
 pub returns : goal.returns
-returns c = fresh_handed_lem c.fresh.result _ _ _ c.fresh.ensures _ _ c.if1.false (sym c.rows_there.ensures ∙ not-false _ c.if-not-rows_there.false-raw) c.pack.ensures.0 c.pack.ensures.1
+returns c = fresh_handed_lem c.fresh-r.result _ _ _ c.fresh-r.ensures _ _ c.if-failed-ne0.false (sym c.rows_there.ensures ∙ not-false _ c.if-not-rows_there.false-raw) c.pack.ensures.0 c.pack.ensures.1

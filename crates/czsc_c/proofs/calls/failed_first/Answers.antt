@@ -1,8 +1,6 @@
 use Rattle.czsc_c.proofs.HandedLaws.{first-refused, first_no-stand, first_no-place, first-passed}
 use borrow.Author.Tests.{not-true, not-false}
 use mathlib.Core.Path.{sym, ◌∙◌}
-use Rattle.sound.proofs.fresh.Reads as fresh-reads
-use Rattle.strokes.proofs.rows_there.Reads as rows-there-reads
 use Rattle.czsc_c.proofs.calls.failed_first.Goals as goal
 
 pub returns-then-failed-ne0 : goal.returns-then-failed-ne0

@@ -1,5 +1,3 @@
-use Rattle.batch.proofs.feed_all.Reads as feed-all-reads
-use Rattle.czsc_c.proofs.handed.hand_over_all.Reads as hand-over-all-reads
 use Rattle.czsc_c.proofs.calls.feed_packed.Goals as goal
 
 pub hand_over_all-requires : goal.hand_over_all-requires

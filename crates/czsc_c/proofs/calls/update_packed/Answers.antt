@@ -3,17 +3,17 @@ use Rattle.czsc_c.proofs.HandedLaws.{fed_handed}
 use Rattle.sound.specs.StandSound.{IsSound}
 use Rattle.strokes.specs.declared.Stand.{Stand}
 use mathlib.Core.Path.{sym, subst}
-use Rattle.czsc_c.proofs.handed.hand_over.Reads as hand-over-reads
-use Rattle.feed.proofs.feed_sound.Reads as feed-sound-reads
-use Rattle.strokes.proofs.unpack.Reads as unpack-reads
+use Rattle.strokes.specs.Lent.{held}
 use Rattle.czsc_c.proofs.calls.update_packed.Goals as goal
 
 pub feed_sound-r-requires : goal.feed_sound-r-requires
-feed_sound-r-requires c = let s = c.?before.before.before in
-    record { fact_1 = subst (λ (z : Stand). IsSound z (lent s)) (sym c.unpack-stand.ensures) s.requires.1; fact_2 = clear_none _ }
+feed_sound-r-requires c = 
+    let a = c.args in
+    let m = held a.rt a.ri a.rp a.ut a.ui a.up a.uc a.ue a.st a.si a.sp a.sc a.se a.fs a.fp in
+    record { fact_1 = subst (λ (z : Stand). IsSound z m) (sym c.unpack-stand.ensures) c.requires.fact_2; fact_2 = clear_none _ }
 
 pub hand_over-requires : goal.hand_over-requires
-hand_over-requires c = c.?before.before.before.requires.0
+hand_over-requires c = c.requires.fact_1
 
 pub shape_of-numbers : goal.shape_of-numbers
 shape_of-numbers c = c.numbers-1.given
@@ -70,4 +70,7 @@ pub shape_of-fp : goal.shape_of-fp
 shape_of-fp c = c.fp-1.given
 
 pub returns : goal.returns
-returns c = let s = c.?before.before.before in let u = c.unpack-stand in let f = c.feed_sound-r in fed_handed s.args.numbers.now s.args.counts.now s.args.events.now (lent s) u.result f.result u.ensures f.ensures c.hand_over.ensures
+returns c = 
+    let a = c.args in
+    let m = held a.rt a.ri a.rp a.ut a.ui a.up a.uc a.ue a.st a.si a.sp a.sc a.se a.fs a.fp in
+    let u = c.unpack-stand in let f = c.feed_sound-r in fed_handed a.numbers.now a.counts.now a.events.now m u.result f.result u.ensures f.ensures c.hand_over.ensures
