@@ -1,6 +1,6 @@
-//! Where the archive of `rt staticlib czsc_c` lies.
+//! Where the archive of `rt lib` in crates/czsc_c lies.
 fn main() {
-    let top = std::path::Path::new(env!("CARGO_MANIFEST_DIR")).join("../target/staticlib");
+    let top = std::path::Path::new(env!("CARGO_MANIFEST_DIR")).join("../crates/czsc_c/out");
     println!("cargo:rustc-link-search=native={}", top.display());
     println!(
         "cargo:rerun-if-changed={}",

@@ -36,7 +36,7 @@ fn children() -> Duration {
 }
 
 fn program() -> String {
-    format!("{}/../target/bin/replay", env!("CARGO_MANIFEST_DIR"))
+    format!("{}/../crates/replay/out/replay", env!("CARGO_MANIFEST_DIR"))
 }
 
 fn line(b: &Fed) -> String {

@@ -1,5 +1,5 @@
 -- The whole part of a float, and what `half_up` of src/rounding.rt answers. Assumes nothing.
-use Rattle.std.proofs.Common.{◌≡◌, ℕ, suc, ◌+◌, ◌*◌, ◌/◌, ◌^◌, ◌<◌, ◌≤◌, true, false, T, ℤ, pos, sym, refl, ap, ◌∙◌, subst, true≢false, lt_of_lt_of_le, mul-le-mul_right, mul_assoc, mul_comm, div-lt_iff_lt-mul, add-mul, lt_of_mul-lt-mul_right, mul-lt-mul_of_pos_right, one-mul, mul-one, mul_right_comm, mul_left_comm, arith, lit≤, ltb→lt, lt→ltb, pow_mono}
+use Rattle.std.proofs.Common.{◌≡◌, ℕ, suc, ◌+◌, ◌*◌, ◌/◌, ◌^◌, ◌<◌, true, false, T, ℤ, pos, sym, refl, ap, ◌∙◌, subst, true≢false, lt_of_lt_of_le, mul-le-mul_right, mul_assoc, mul_comm, div-lt_iff_lt-mul, add-mul, lt_of_mul-lt-mul_right, mul-lt-mul_of_pos_right, one-mul, mul-one, mul_right_comm, mul_left_comm, arith, lit≤, ltb→lt, lt→ltb, pow_mono}
 use native.Mathlib.Nat.{div-div-eq-div-mul, add-div_right, min-eq_left, pow-succ'}
 use lib.Pow.{le_ones}
 use lib.Ieee.{Float, nan, inf, fin, binary64, low, up, down, sum, add, fits, to_unsigned, lt}

@@ -1,15 +1,10 @@
 -- Laws that the questions' functions cite: the tests asked one after the other. Assumes nothing.
-use mathlib.Core.Path.{◌≡◌, refl, ap, sym, ◌∙◌}
-use mathlib.Core.Bool.{Bool, true, false, not, ◌&&◌, ◌||◌, cond, beq, false≢true}
-use mathlib.Core.Option.{Option, none, some}
-use Prim.Native.Nat.{ℕ, zero, suc, ◌+◌, ◌*◌}
-use native.Mathlib.Nat.{mul-pos, zero-mul}
+use mathlib.Core.Path.{◌≡◌, refl}
+use mathlib.Core.Bool.{Bool, true, false, ◌&&◌, cond}
+use mathlib.Core.Option.{none, some}
 use native.Mathlib.Omega.{arith}
-use lib.IntN.{ℤ, pos, negsuc}
-use lib.Dec.{T, ltb, eqb, eqb→eq}
-use lib.Signed.{lt_z, le_z}
-use lib.Ieee.{Float, nan, inf, fin, binary64, up, down, lt, le, eq, div}
-use lib.Ieee.Fits.{up_pos, down_pos}
+use lib.IntN.{ℤ}
+use lib.Signed.{le_z}
 use Rattle.bars.specs.declared.Bar.{Bar}
 use Rattle.bars.specs.Questions.{is_price, question5, question6, question7, question8, question9, first_no, first_failed, first_failed_after, not_earlier}
 

@@ -1,5 +1,5 @@
 -- Marked instances 1, 2, 3, 4 and 12 of document 01, gaps at and below zero, and bounds of the questions, computed.
-use Rattle.std.specs.Prelude.{ℕ, suc, zero, ◌+◌, ◌≡◌, refl, Bool, true, false, List, [], ◌∷◌, ◌++◌, map, ℤ, pos, negsuc, Float}
+use Rattle.std.specs.Prelude.{ℕ, suc, zero, ◌≡◌, refl, true, false, List, [], ◌∷◌, ◌++◌, map, ℤ, pos, negsuc, Float}
 use Rattle.std.proofs.Math.Option.{none, some}
 use Rattle.std.specs.Float.{nan, inf, fin, binary64}
 use Rattle.std.specs.Float.Ieee.{neg, round, of_int}

@@ -1,6 +1,6 @@
 -- The search in one pass is check_bi and the first stroke's cut, whatever the times.
 -- Assumes nothing.
-use Prim.Native.Nat.{ℕ, zero, suc, ◌+◌, ◌-◌, ◌≤◌, ◌<◌}
+use Prim.Native.Nat.{ℕ, suc, ◌+◌, ◌-◌, ◌≤◌, ◌<◌}
 use native.Mathlib.Omega.{arith}
 use native.Mathlib.Numerals.{add-one}
 use mathlib.Core.Path.{◌≡◌, refl, ap, sym, ◌∙◌, subst}
@@ -8,11 +8,11 @@ use mathlib.Core.Bool.{Bool, true, false, not, ◌&&◌, cond}
 use mathlib.Core.List.{List, [], ◌∷◌, ◌++◌, map, append_assoc, append-nil}
 use mathlib.Core.Option.{Option, none, some}
 use mathlib.Core.Logic.{◌⊎◌, inl, inr}
-use lib.ListN.{length, take, drop, length-drop, length-map, length-append}
+use lib.ListN.{length, drop, length-drop, length-map, length-append}
 use lib.Seq.{length-take-le}
 use lib.Signed.{lt_z}
-use lib.Dec.{T, eqb, leb, leb→le, le→leb, eqb-suc-zero}
-use lib.Ieee.{Float, lt}
+use lib.Dec.{T, eqb, leb, le→leb, eqb-suc-zero}
+use lib.Ieee.{Float}
 use Rattle.bars.specs.Bars.{Merged}
 use Rattle.bars.specs.Lists.{All, keep_if, fold_left}
 use Rattle.machine.specs.declared.Mark.{Mark}

@@ -1,6 +1,6 @@
 -- Question 19 by the whole number that the digits make: at most 15 without the leading zeros where it is below 10^15. Assumes nothing.
 use mathlib.Core.Path.{◌≡◌, refl, sym, ap, ◌∙◌, subst}
-use Prim.Native.Nat.{ℕ, zero, ◌+◌, ◌-◌, ◌*◌, ◌^◌, ◌≤◌, ◌<◌}
+use Prim.Native.Nat.{ℕ, ◌+◌, ◌-◌, ◌*◌, ◌^◌, ◌≤◌, ◌<◌}
 use native.Mathlib.Nat.{min-eq_left, min-eq_right, le_trans, lt_of_lt_of_le, le_of_lt, pow-succ', pow-le-pow_right, zero-lt-suc, mul-le-mul_left, mul-le-mul_right, one-mul, lt_irrefl, not-le_of_lt}
 use native.Mathlib.Omega.{arith}
 use mathlib.Core.Logic.{inl, inr}

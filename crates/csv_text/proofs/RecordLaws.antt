@@ -11,7 +11,6 @@ use lib.ListN.{length, drop, get_or, drop_of_length-le, length-append, length-dr
 use lib.Seq.{drop-cons}
 use Rattle.arith.proofs.Tests.{and_false}
 use Rattle.bars.specs.declared.Bar.{Bar}
-use Rattle.csv_text.specs.declared.Import.{Import}
 use Rattle.csv_text.specs.declared.Import.TheVariants.{Read, Refused}
 use Rattle.csv_text.specs.declared.numerals.Numeral.{Numeral}
 use Rattle.csv_text.specs.declared.numerals.NumeralAt.{NumeralAt}

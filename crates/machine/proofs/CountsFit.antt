@@ -21,7 +21,7 @@ use Rattle.machine.specs.Stand.{Settings, State, fresh}
 use Rattle.machine.specs.Feed.{Moved, add_found, add_made, make_after, make_if, make, break_if, break_last, move_after, move_if, move, shed_if, shed_count, drop_before, drop_early, finish_if, finish, is_later, raw_with, merged_with, step_with, step}
 use Rattle.machine.specs.Soundness.{bars_of, fewer_fractals, counts_fit}
 use Rattle.machine.specs.FeedQuestions.{fewer_if, question10, merged, joined_fits, moved_fits, question11, question12, failed}
-use Rattle.machine.specs.Calls.{feed_by, feed, calls}
+use Rattle.machine.specs.Calls.{feed_by, feed}
 use Rattle.machine.specs.Reached.{OneEach}
 use Rattle.machine.proofs.Lists.{All-append, All-init}
 use Rattle.machine.proofs.EventsKeep.{All-shed}

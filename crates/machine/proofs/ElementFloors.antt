@@ -18,7 +18,7 @@ use Rattle.machine.specs.Strokes.{Stroke, Found}
 use Rattle.machine.specs.ByTime.{stroke_of}
 use Rattle.machine.specs.Stand.{State, fresh}
 use Rattle.machine.specs.Feed.{Step, shed_if, merged_with, raw_with, is_later}
-use Rattle.machine.proofs.MachineByTime.{joined, move, finish, step_with, step, feed_if, feed, run, start, NotEarlier}
+use Rattle.machine.proofs.MachineByTime.{joined, move, finish, step_with, step, feed_if, feed, plus, run, start, NotEarlier}
 use Rattle.machine.proofs.Lists.{All-map, All-append, All-right, All-init}
 use Rattle.machine.proofs.FractalWindows.{Cut}
 use Rattle.machine.proofs.MadeStroke.{MadeFrom}
@@ -145,7 +145,7 @@ unfolding run feed
 run_floors ok h minimum most s [] f d = d
 run_floors ok h minimum most s (b ∷ bs) f d =
     let t = ok s.state b in
-    run_floors ok h minimum most _ bs (feed_fine minimum most t s.state b f (h s.state b)) (feed_floors minimum most t s.state b f (h s.state b) d)
+    run_floors ok h minimum most (record { state = (feed ok minimum most s.state b).state; events = plus s.events (feed ok minimum most s.state b).events }) bs (feed_fine minimum most t s.state b f (h s.state b)) (feed_floors minimum most t s.state b f (h s.state b) d)
 
 start_floors : ElementFloors start.state.unfinished start.state.strokes
 unfolding start fresh

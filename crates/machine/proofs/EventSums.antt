@@ -92,4 +92,4 @@ pub run_balanced : (ok : State → Bar → Bool) (minimum most : ℕ) (s : Step)
 unfolding run feed plus
 run_balanced ok minimum most s [] h = h
 run_balanced ok minimum most s (b ∷ bs) h =
-    run_balanced ok minimum most _ bs (omega (arith, feed_if_balanced minimum most (ok s.state b) s.state b))
+    run_balanced ok minimum most (record { state = (feed ok minimum most s.state b).state; events = plus s.events (feed ok minimum most s.state b).events }) bs (omega (arith, feed_if_balanced minimum most (ok s.state b) s.state b))

@@ -11,9 +11,9 @@ use mathlib.Core.Logic.{◌⊎◌, inl, inr}
 use lib.ListN.{length, take, drop, get_or, length-drop, length-map, length-append}
 use lib.Seq.{length-take-le, get_or-append_seam}
 use lib.Signed.{lt_z}
-use lib.Dec.{T, leb, leb→le, nleb→lt, le→leb, not_T}
+use lib.Dec.{T, leb, leb→le, le→leb, not_T}
 use lib.Ieee.{Float, lt, eq}
-use lib.Ieee.Fits.{and_i, and_l, and_r}
+use lib.Ieee.Fits.{and_l, and_r}
 use Rattle.arith.proofs.FloatOrder.{Number, decide, contra, lt-left, lt-right, lt_trans, lt_split, lt_asym, not-lt, eq_sym, eq_not_lt}
 use Rattle.bars.specs.declared.Bar.{Bar}
 use Rattle.bars.specs.Bars.{Merged}

@@ -1,10 +1,8 @@
 -- Lists kept and cut by tests.
 -- Assumes nothing.
-use mathlib.Core.Path.{◌≡◌, refl, ap, sym, ◌∙◌}
+use mathlib.Core.Path.{◌≡◌, refl, ◌∙◌}
 use mathlib.Core.Bool.{Bool, true, false, not, cond}
 use mathlib.Core.List.{List, [], ◌∷◌, ◌++◌}
-use mathlib.Core.Option.{Option, none, some}
-use mathlib.Core.Logic.{◌⊎◌, inl, inr}
 use lib.Dec.{T}
 use Rattle.bars.specs.Lists.{All, keep_if, skip_while, init}
 

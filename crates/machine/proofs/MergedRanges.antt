@@ -1,9 +1,9 @@
 -- Merged bars pass questions 5, 6 and 8 and have vol and amount from zero up.
 -- Assumes nothing.
-use mathlib.Core.Bool.{Bool, true, false, not, ◌&&◌}
+use mathlib.Core.Bool.{not}
 use mathlib.Core.List.{List, [], ◌∷◌}
 use lib.Dec.{T}
-use lib.Ieee.{Float, nan, inf, fin, lt, eq, le, binary64, add}
+use lib.Ieee.{Float, nan, inf, fin, le, binary64, add}
 use lib.Ieee.Fits.{and_i, and_l, and_r}
 use Rattle.bars.specs.Lists.{All, fold_left}
 use Rattle.bars.specs.declared.Bar.{Bar}

@@ -20,7 +20,7 @@ use Rattle.machine.specs.Feed.{add_found, Moved, Step, add_made, shed_if, raw_wi
 use Rattle.machine.specs.Stand.{State, fresh}
 use Rattle.bars.specs.Merging.{merge_all, united, contains, merged_up, merged_down, settle, remove_include, merge_in, at_times, again}
 use Rattle.machine.specs.ByTime.{from, check_bi_by_time, cut_at, cut_by_time}
-use Rattle.machine.proofs.MachineByTime.{joined, break_if, break_last, move_some, move, drop_early, finish, step_with, step, feed_if, feed, run, start, NotEarlier}
+use Rattle.machine.proofs.MachineByTime.{joined, break_if, break_last, move_some, move, drop_early, finish, step_with, step, feed_if, feed, plus, run, start, NotEarlier}
 use Rattle.machine.specs.Break.{breaks}
 use Rattle.machine.specs.Rising.{Rising}
 use Rattle.bars.specs.Questions.{question9}
@@ -241,7 +241,7 @@ unfolding run feed
 run-newest ok h minimum most s [] f safe n = n
 run-newest ok h minimum most s (b ∷ bs) f safe n =
     let r = feed-newest minimum most (ok s.state b) s.state b f (h s.state b) safe.0 n in
-    run-newest ok h minimum most _ bs r.0 safe.1 r.1
+    run-newest ok h minimum most (record { state = (feed ok minimum most s.state b).state; events = plus s.events (feed ok minimum most s.state b).events }) bs r.0 safe.1 r.1
 
 start-newest : T (newest_last start.state)
 unfolding start fresh newest_last newest_in last

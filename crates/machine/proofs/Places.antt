@@ -1,19 +1,17 @@
 -- The placed fractals stand at their places, one after another; and what a place says of times where times rise.
 -- Assumes nothing.
-use Prim.Native.Nat.{ℕ, zero, suc, ◌+◌, ◌-◌, ◌≤◌, ◌<◌}
+use Prim.Native.Nat.{ℕ, zero, suc, ◌+◌, ◌≤◌, ◌<◌}
 use native.Mathlib.Omega.{arith}
 use mathlib.Core.Path.{◌≡◌, refl, ap, sym, ◌∙◌, subst}
 use mathlib.Core.Bool.{Bool, true, false, not, ◌&&◌, cond}
-use mathlib.Core.List.{List, [], ◌∷◌, ◌++◌, map, nil≢cons, head-eq_of_cons-eq}
+use mathlib.Core.List.{List, [], ◌∷◌, map, nil≢cons, head-eq_of_cons-eq}
 use mathlib.Core.Option
 use mathlib.Core.Option.{Option, none, some, some-injective, none-ne-some}
-use mathlib.Core.Logic.{◌⊎◌, inl, inr}
 use lib.ListN.{length, take, drop, length-drop}
-use lib.Seq.{drop-drop, drop-nil}
+use lib.Seq.{drop-nil}
 use lib.IntN.{ℤ}
 use lib.Signed.{lt_z, le_z}
-use lib.Dec.{T, leb}
-use lib.Ieee.{Float, lt}
+use lib.Dec.{T}
 use Rattle.bars.specs.Bars.{Merged}
 use Rattle.bars.specs.Lists.{All, keep_if}
 use Rattle.machine.specs.declared.Mark.{Mark}

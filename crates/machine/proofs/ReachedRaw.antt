@@ -18,7 +18,7 @@ use Rattle.machine.specs.Feed.{Step, shed_if, raw_with, merged_with, is_later}
 use Rattle.machine.specs.Feed as place-feed
 use Rattle.machine.specs.Soundness.{is_named}
 use Rattle.machine.specs.FeedQuestions.{failed}
-use Rattle.machine.specs.Calls.{feed_by, feed, run, start, calls, accepted_by, accepted}
+use Rattle.machine.specs.Calls.{feed_by, feed, plus, run, start, calls, accepted_by, accepted}
 use Rattle.machine.specs.ReachedRaw.{ReachedRaw}
 use Rattle.machine.proofs.MachineByTime.{move, drop_early, finish, step_with, step}
 use Rattle.machine.proofs.Lists.{All-map, All-zip}
@@ -63,7 +63,7 @@ unfolding run accepted feed passes
 newest-run c s [] p r e = e ∙ ap last (sym (append-nil p))
 newest-run c s (b ∷ bs) p r e =
     let k = newest_by (failed c s.state b) c s.state b p (accepted c (feed c s.state b).state bs) (λ h. newest-step c s.state b r (asks c s.state b h).1) e in
-    newest-run c _ bs k.0 (next_reached c s.state b r) k.1 ∙ ap last k.2
+    newest-run c (record { state = (feed c s.state b).state; events = plus s.events (feed c s.state b).answer }) bs k.0 (next_reached c s.state b r) k.1 ∙ ap last k.2
 
 newest : (c : Settings) (bs : List Bar) → last (calls c bs).state.raw ≡ last (accepted c fresh bs)
 unfolding calls start fresh

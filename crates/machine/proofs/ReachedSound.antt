@@ -69,7 +69,7 @@ fresh_reached c = record { fine = start_fine; well = start_well c.most; fits = f
 run_reached : (c : Settings) (s : Step) (bs : List Bar) → Reached c s.state → Reached c (place-calls.run c s bs).state
 unfolding place-calls.run
 run_reached c s [] r = r
-run_reached c s (b ∷ bs) r = run_reached c _ bs (next_reached c s.state b r)
+run_reached c s (b ∷ bs) r = run_reached c (record { state = (place-calls.feed c s.state b).state; events = place-calls.plus s.events (place-calls.feed c s.state b).answer }) bs (next_reached c s.state b r)
 
 pub calls_reached : (c : Settings) (bs : List Bar) → Reached c (calls c bs).state
 unfolding calls place-calls.start

@@ -17,7 +17,7 @@ use Rattle.machine.specs.Strokes.{Stroke}
 use Rattle.machine.specs.Stand.{State, fresh}
 use Rattle.machine.specs.Feed.{Step, Moved, shed_if, raw_with, merged_with, is_later}
 use Rattle.bars.specs.Merging.{merge_all, merge_in, at_times, again}
-use Rattle.machine.proofs.MachineByTime.{move, drop_early, finish, step_with, step, feed_if, feed, run, start, NotEarlier}
+use Rattle.machine.proofs.MachineByTime.{move, drop_early, finish, step_with, step, feed_if, feed, plus, run, start, NotEarlier}
 use Rattle.machine.proofs.Facts.{Good}
 use Rattle.bars.specs.Questions.{question9}
 use Rattle.machine.proofs.Lists.{All-map, All-append, All-left, All-right, All_keep, All-init}
@@ -309,7 +309,7 @@ feed_fine minimum most false s b f h = f
 pub run_fine : (ok : State → Bar → Bool) → NotEarlier ok → (minimum most : ℕ) (s : Step) (bs : List Bar) → Fine s.state → Fine (run ok minimum most s bs).state
 unfolding run feed
 run_fine ok h minimum most s [] f = f
-run_fine ok h minimum most s (b ∷ bs) f = run_fine ok h minimum most _ bs (feed_fine minimum most (ok s.state b) s.state b f (h s.state b))
+run_fine ok h minimum most s (b ∷ bs) f = run_fine ok h minimum most (record { state = (feed ok minimum most s.state b).state; events = plus s.events (feed ok minimum most s.state b).events }) bs (feed_fine minimum most (ok s.state b) s.state b f (h s.state b))
 
 sides_good : (bs : List Stroke) (l : List Merged) → Sides bs l → All Good bs
 sides_good [] l d = tt

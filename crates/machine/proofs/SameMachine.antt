@@ -204,7 +204,7 @@ run-same c s [] f w = refl
 run-same c s (b ∷ bs) f w =
     let r = feed_well c.minimum c.most (passes c s.state b) s.state b f w (asks c s.state b) in
     ap (λ z. place-calls.run c z bs) (next_by_lem (failed c s.state b) c s b (λ h. step_same c s.state b f w.kept.built (asks c s.state b h).1))
-    ∙ run-same c _ bs r.0 r.1
+    ∙ run-same c (record { state = (feed_if c.minimum c.most (passes c s.state b) s.state b).state; events = plus s.events (feed_if c.minimum c.most (passes c s.state b) s.state b).events }) bs r.0 r.1
 
 pub same-machine : (c : Settings) (bs : List Bar) → calls c bs ≡ run (passes c) c.minimum c.most start bs
 unfolding calls place-calls.start start

@@ -1,5 +1,5 @@
 -- Document 01's break: when the last stroke breaks, and the unfinished bars that are left where it does. Definitions only.
-use Rattle.std.specs.Prelude.{Bool, true, false, List, [], ◌∷◌, ◌++◌, Float}
+use Rattle.std.specs.Prelude.{Bool, false, List, ◌++◌, Float}
 use Rattle.std.proofs.Math.Option.{Option, none, some}
 use Rattle.std.specs.Float.Ieee.{lt}
 use Rattle.arith.specs.Order.{max_of, min_of}

@@ -1,6 +1,6 @@
 -- A call of feed with its answer, and a list of calls from a fresh analyzer: document 01's plain machine, questions included. Definitions only.
-use Rattle.std.specs.Prelude.{ℕ, zero, suc, ◌+◌, Bool, true, false, ◌&&◌, List, [], ◌∷◌}
-use Rattle.std.proofs.Math.Option.{Option, none, some}
+use Rattle.std.specs.Prelude.{ℕ, zero, suc, ◌+◌, Bool, true, ◌&&◌, List, [], ◌∷◌}
+use Rattle.std.proofs.Math.Option.{Option, some}
 use Rattle.bars.specs.declared.Bar.{Bar}
 use Rattle.machine.specs.Stand.{Settings, State, fresh}
 use Rattle.machine.specs.Feed.{Events, Step, step, is_later}

@@ -1,5 +1,5 @@
 -- What demand 3 says of kept strokes: the fractals inside one, and neighbours. Definitions only.
-use Rattle.std.specs.Prelude.{◌≡◌, not, List, [], ◌∷◌, ◌⊎◌, T, Float}
+use Rattle.std.specs.Prelude.{◌≡◌, not, List, [], ◌∷◌, ◌⊎◌, T}
 use Rattle.std.specs.Int.Signed.{lt_z}
 use Rattle.std.specs.Float.Ieee.{eq}
 use Rattle.machine.specs.Fractals.{Fractal, time_of, fx_of, same_mark, beyond}

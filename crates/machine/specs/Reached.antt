@@ -1,7 +1,7 @@
 -- What is claimed of the states that are reached from a fresh analyzer, refused calls and bars that repeat the last time included. The proof is
 -- `reached_sound` of proofs/ReachedSound.
-use Rattle.std.specs.Prelude.{ℕ, ◌≤◌, ◌≡◌, Bool, true, false, List, [], ◌∷◌, ◌++◌, length, T}
-use Rattle.std.proofs.Math.Option.{Option, none, some}
+use Rattle.std.specs.Prelude.{◌≤◌, ◌≡◌, false, List, [], ◌∷◌, ◌++◌, length, T}
+use Rattle.std.proofs.Math.Option.{none}
 use Rattle.bars.specs.declared.Bar.{Bar}
 use Rattle.bars.specs.Lists.{All}
 use Rattle.machine.specs.Stand.{Settings, State, fresh}

@@ -1,6 +1,6 @@
 -- From a fresh analyzer the rules by place are the Rust's rules by time: what SearchByTime asks of the bars holds before every search. The claim; its proof is
 -- `reached_by_time` of proofs/ReachedSound.
-use Rattle.std.specs.Prelude.{◌≡◌, List, [], ◌∷◌, T}
+use Rattle.std.specs.Prelude.{◌≡◌, List, ◌∷◌, T}
 use Rattle.std.proofs.Math.Option.{some}
 use Rattle.bars.specs.declared.Bar.{Bar}
 use Rattle.bars.specs.Bars.{Merged}

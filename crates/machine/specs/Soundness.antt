@@ -1,6 +1,6 @@
 -- Question 4 of document 01: is the stand sound? One definition a clause, in document 01's order. (That the lent stores have their recorded lengths is
 -- the port's: the plain machine has no stores.) Definitions only.
-use Rattle.std.specs.Prelude.{ℕ, ◌+◌, Bool, true, false, not, ◌&&◌, ◌||◌, List, [], ◌∷◌, map, length, drop, ℤ, leb, ltb, Float}
+use Rattle.std.specs.Prelude.{ℕ, ◌+◌, Bool, true, false, ◌&&◌, List, [], ◌∷◌, map, length, drop, ℤ, leb, ltb}
 use Rattle.std.proofs.Math.Option.{Option, none, some}
 use Rattle.std.specs.Int.Signed.{lt_z, le_z}
 use Rattle.std.specs.Float.Ieee.{eq}

@@ -1,6 +1,6 @@
 -- Document 01's stand, as the plain machine has it: the settings, with the number of bars that each store takes, and the state, with the bars and the
 -- strokes that are held. Every list is oldest first. Definitions only.
-use Rattle.std.specs.Prelude.{ℕ, List, [], ◌∷◌}
+use Rattle.std.specs.Prelude.{ℕ, List, []}
 use Rattle.bars.specs.declared.Bar.{Bar}
 use Rattle.bars.specs.Bars.{Merged}
 use Rattle.machine.specs.Strokes.{Stroke}

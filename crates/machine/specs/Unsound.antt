@@ -1,6 +1,6 @@
 -- A reached state that is not sound: 211 bars, minimum 5. The last of them breaks a stroke of which no unfinished bar is from the last but one bar's time on,
 -- and the newest raw bar is then no element of any unfinished bar. Computed by the machine that asks only of the newest bar; Reached says that it is the machine.
-use Rattle.std.specs.Prelude.{ℕ, zero, suc, ◌+◌, ◌≡◌, refl, Bool, true, false, ◌&&◌, List, [], ◌∷◌, ◌++◌, map, length, ℤ, pos, Float}
+use Rattle.std.specs.Prelude.{ℕ, zero, suc, ◌≡◌, refl, true, false, List, [], ◌∷◌, ◌++◌, map, length, pos, Float}
 use Rattle.std.specs.Float.{binary64}
 use Rattle.std.specs.Float.Ieee.{of_int}
 use Rattle.bars.specs.declared.Bar.{Bar}

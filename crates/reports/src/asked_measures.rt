@@ -3,7 +3,7 @@ ghost use Rattle.std.specs.Prelude.{◌≡◌, List, ◌≤◌, length, take, T}
 ghost use Rattle.arith.specs.SlopeDivisor.{ExactDivisor};
 ghost use Rattle.bars.specs.declared.Bar.{Bar as BarOf};
 ghost use Rattle.stores.specs.Code.StoreRows.{rising};
-ghost use Rattle.strokes.specs.Lent.{before, stores_seen};
+ghost use Rattle.strokes.specs.Lent.{stores_seen};
 ghost use Rattle.machine.specs.Strokes.{Stroke};
 ghost use Rattle.sound.specs.Code.SoundStand.{named_rows};
 ghost use Rattle.reports.specs.Measures.{measures_of};

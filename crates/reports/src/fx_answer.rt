@@ -4,7 +4,7 @@
 ghost use Rattle.std.specs.Prelude.{◌≡◌, true};
 ghost use Rattle.std.proofs.Math.Option.{none};
 ghost use Rattle.strokes.specs.StateRead.{state_of};
-ghost use Rattle.strokes.specs.Lent.{fractals_before, fractals_after, before, fractals_lent, fractals_seen, stores_seen};
+ghost use Rattle.strokes.specs.Lent.{fractals_before, fractals_after, fractals_lent, fractals_seen, stores_seen};
 ghost use Rattle.question4.specs.Question4.{question4};
 ghost use Rattle.reports.specs.FractalList.{later_than};
 ghost use Rattle.reports.specs.Code.FxListing.{listing, step_all, CanList};

@@ -1,5 +1,5 @@
 -- The first n bars of a store of raw bars, looked up by their times: what the place that find_time answers says of them. Assumes nothing.
-use Prim.Native.Nat.{ℕ, zero, suc, ◌+◌, ◌<◌, ◌≤◌}
+use Prim.Native.Nat.{ℕ, zero, suc, ◌<◌, ◌≤◌}
 use mathlib.Core.Bool.{◌&&◌}
 use mathlib.Core.List.{List, [], ◌∷◌, map}
 use mathlib.Core.Path.{◌≡◌, refl, ap, sym, ◌∙◌, subst}
@@ -12,7 +12,7 @@ use lib.Signed.{lt_z, le_z}
 use Rattle.bars.specs.declared.Bar.{Bar}
 use Rattle.bars.specs.Lists.{keep_if, skip_while}
 use Rattle.stores.specs.Stores.{RawStore, raw_bars}
-use Rattle.stores.specs.Code.StoreRows.{SizedRaw, RoomRaw, bar_at, rising, place_of}
+use Rattle.stores.specs.Code.StoreRows.{SizedRaw, bar_at, rising, place_of}
 use Rattle.stores.proofs.Columns.{raw-times, raw-length, raw_at}
 use Rattle.stores.proofs.Searching.{place_at, place_skip, named, nameless}
 

@@ -3,13 +3,12 @@ use Prim.Native.Nat.{ℕ, zero, suc, ◌<◌, ◌≤◌}
 use mathlib.Core.Bool.{Bool, true, false, not, ◌&&◌, cond}
 use mathlib.Core.List.{List, [], ◌∷◌, map}
 use mathlib.Core.Path.{◌≡◌, refl, ap, sym, ◌∙◌, subst}
-use native.Mathlib.Nat.{le_of_lt, le_antisymm}
 use native.Mathlib.Omega.{arith}
 use lib.ListN.{length, take, drop, get_or, length-map}
 use lib.Seq.{get_or-take, length-take-le}
-use lib.IntN.{ℤ, pos, negsuc}
-use lib.Dec.{T, ltb→lt, leb→le, le→leb}
-use lib.Signed.{lt_z, le_z, lt_z_yes, le_z_yes, lt_z_no, <ℤ-≤ℤ_trans, ≤ℤ_refl, clash_ℤ}
+use lib.IntN.{ℤ, pos}
+use lib.Dec.{T}
+use lib.Signed.{lt_z, le_z, lt_z_no, ≤ℤ_refl}
 use lib.Ieee.Fits.{and_i, and_l, and_r}
 use Rattle.arith.proofs.Tests.{yes, holds, no}
 use Rattle.bars.specs.Lists.{keep_if, skip_while}

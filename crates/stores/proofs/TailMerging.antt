@@ -1,11 +1,11 @@
 -- Laws of a bar merged into a tail of bars in rows, and of the whole list that ends with that tail. Assumes nothing.
-use Prim.Native.Nat.{ℕ, zero, suc, ◌+◌, ◌-◌, ◌<◌, ◌≤◌}
+use Prim.Native.Nat.{ℕ, ◌+◌, ◌-◌, ◌<◌, ◌≤◌}
 use mathlib.Core.Path.{◌≡◌, refl, ap, sym, ◌∙◌}
 use mathlib.Core.Bool.{Bool, true, false}
 use mathlib.Core.List.{List, [], ◌∷◌, ◌++◌, append_assoc}
 use native.Mathlib.Numerals.{add-one}
 use native.Mathlib.Omega.{arith}
-use lib.ListN.{length, take, get_or}
+use lib.ListN.{take}
 use lib.Seq.{take-suc, append_snoc, drop-set-lt}
 use lib.Ieee.{Float}
 use Rattle.bars.specs.declared.Bar.{Bar}

@@ -1,17 +1,16 @@
 -- The fractals that a stroke store holds: a fractal's rows read back as the fractal, and fractals that are written one after the other are what stands there.
 -- Assumes nothing.
-use Prim.Native.Nat.{ℕ, zero, suc, ◌+◌, ◌-◌, ◌≤◌, ◌<◌}
+use Prim.Native.Nat.{ℕ, zero, suc, ◌+◌, ◌≤◌, ◌<◌}
 use native.Mathlib.Numerals.{add-one}
 use native.Mathlib.Omega.{arith}
 use mathlib.Core.Path.{◌≡◌, refl, ap, sym, ◌∙◌, subst}
 use mathlib.Core.Bool.{Bool, true, false, cond}
-use mathlib.Core.List.{List, [], ◌∷◌, ◌++◌, map, append-nil, append_assoc}
+use mathlib.Core.List.{List, [], ◌∷◌, ◌++◌, map, append-nil}
 use mathlib.Core.Option
 use mathlib.Core.Option.{Option, none, some, some-injective, none-ne-some}
-use lib.ListN.{length, take, drop, get_or, set, length-append, length-set, length-map, length-take, length-drop, get_or-map, take-append-drop}
+use lib.ListN.{length, take, drop, set, length-append, length-set, length-map, length-take, length-drop, get_or-map, take-append-drop}
 use lib.Seq.{take-suc-set, drop-set-lt, drop-cons, append_snoc, get_or-take, drop-drop, length-take-le}
 use lib.IntN.{ℤ}
-use lib.Ieee.{Float}
 use mir.Syntax.{w32, w64}
 use mir.Val.{SFits, to_z, of_z}
 use mir.ValLaws.{to_z-of_z}

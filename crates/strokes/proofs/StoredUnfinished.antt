@@ -9,7 +9,6 @@ use native.Mathlib.Omega.{arith}
 use lib.ListN.{length, take, drop, get_or, length-append, length-drop, drop_of_length-le}
 use lib.Seq.{length-take-le, take_all, take-add, take-suc, take-append-add, drop_at, drop-drop, append_snoc, get_or-drop}
 use lib.IntN.{ℤ, pos}
-use lib.Ieee.{Float}
 use Rattle.bars.specs.declared.Bar.{Bar}
 use Rattle.bars.specs.Bars.{Merged, merged_of, own}
 use Rattle.bars.specs.Lists.{last, init, copied}

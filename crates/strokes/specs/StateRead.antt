@@ -1,7 +1,6 @@
 -- How the plain machine's settings and state are read off a stand and its lent stores. Kept strokes lie oldest first, without holes, from the stroke store's
 -- beginning, each with its merged bars and its fractals from the same place on. What lies beyond the counts is not read. Definitions only.
-use Rattle.std.specs.Prelude.{ℕ, zero, suc, ◌+◌, ◌-◌, ◌*◌, ◌/◌, Bool, true, false, ◌&&◌, cond, List, [], ◌∷◌, map, length, take, drop, get_or, ℤ, pos, leb, ltb, eqb, Float}
-use Rattle.std.specs.Float.{nan}
+use Rattle.std.specs.Prelude.{ℕ, ◌+◌, ◌-◌, ◌*◌, ◌/◌, Bool, ◌&&◌, cond, List, [], ◌∷◌, map, length, take, drop, get_or, ℤ, pos, leb, eqb, Float}
 use Rattle.bars.specs.Bars.{Merged}
 use Rattle.bars.specs.Lists.{every}
 use Rattle.stores.specs.Stores.{RawStore, MergedStore, zip_with, bar_of, raw_bars, merged_bars}

@@ -1,6 +1,6 @@
 -- The search for a stroke in one pass over the bars, which keeps the fractals that matter by their places and what is asked of them. That it is check_bi
 -- and the first stroke's cut is a theorem of proofs/. Definitions only.
-use Rattle.std.specs.Prelude.{ℕ, suc, ◌+◌, ◌-◌, ◌≤◌, ◌<◌, Bool, true, false, not, ◌&&◌, ◌||◌, List, [], ◌∷◌, ◌≡◌, drop, ℤ, pos, eqb, leb, Float}
+use Rattle.std.specs.Prelude.{ℕ, ◌+◌, ◌-◌, ◌≤◌, ◌<◌, Bool, true, false, not, ◌&&◌, ◌||◌, List, [], ◌∷◌, ◌≡◌, drop, pos, eqb, leb, Float}
 use Rattle.std.specs.Int.Signed.{lt_z}
 use Rattle.std.specs.Float.Ieee.{lt, of_bits}
 use Rattle.std.specs.Float.{binary64}

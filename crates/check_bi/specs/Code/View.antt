@@ -1,5 +1,5 @@
 -- The unfinished bars as they would be once a bar has come: the first n of the store, and behind them the first m of a tail. Definitions only.
-use Rattle.std.specs.Prelude.{ℕ, List, [], ◌∷◌, ◌++◌, take, get_or, ℤ, Float}
+use Rattle.std.specs.Prelude.{ℕ, List, ◌++◌, take, get_or, ℤ, Float}
 use Rattle.std.specs.Float.{nan}
 use Rattle.stores.specs.Stores.{zip_with}
 use Rattle.check_bi.specs.declared.check_fx.Candle.{Candle}

@@ -1,5 +1,5 @@
 -- Instances of the stores' definitions, computed.
-use Rattle.std.specs.Prelude.{ℕ, true, false, List, [], ◌∷◌, ◌≡◌, refl, ℤ, pos, negsuc, Float}
+use Rattle.std.specs.Prelude.{ℕ, true, false, List, [], ◌∷◌, ◌≡◌, refl, pos, negsuc, Float}
 use Rattle.std.specs.Float.{fin}
 use Rattle.bars.specs.Bars.{own, row_of}
 use Rattle.bars.specs.Lists.{copied}

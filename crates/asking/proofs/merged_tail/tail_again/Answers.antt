@@ -1,4 +1,3 @@
-use borrow.Author.Rules.{length_unmapped}
 use Prim.Native.Nat.{◌+◌, ◌-◌}
 use native.Mathlib.Omega.{arith}
 use mathlib.Core.Path.{◌≡◌}
@@ -32,7 +31,7 @@ overflow_sub-old c =
     let l = take a.raw (raw_bars (raw_store a.rt.now a.ri.now a.rp.now)) in
     let k = c.read_new_bar-newest.result in
     let e = c.read_new_bar-newest.ensures in
-    let row : length k.elements ≡ 101 = length_unmapped _ k.elements 101 c.read_new_bar-newest.type_inv.1.1.1.1.0.1.0.1 in
+    let row : length k.elements ≡ 101 = c.read_new_bar-newest.type_inv.1.1.1.1.0.1.0.1 in
     let has = h.again.some in
     let count = again-count u t K a.count h l a.b k e row in
     omega arith
@@ -55,7 +54,7 @@ merge_elements-kept-requires c = let a = c.args in
     let l = take a.raw (raw_bars (raw_store a.rt.now a.ri.now a.rp.now)) in
     let k = c.read_new_bar-newest.result in
     let e = c.read_new_bar-newest.ensures in
-    let row : length k.elements ≡ 101 = length_unmapped _ k.elements 101 c.read_new_bar-newest.type_inv.1.1.1.1.0.1.0.1 in
+    let row : length k.elements ≡ 101 = c.read_new_bar-newest.type_inv.1.1.1.1.0.1.0.1 in
     record { fact_1 = c.requires.fact_1; fact_2 = again-run u t K a.count h l a.b k e row _ _ _ c.start_tail-start.ensures }
 
 pub merge_behind-rows-requires : goal.merge_behind-rows-requires
@@ -67,7 +66,7 @@ merge_behind-rows-requires c = let a = c.args in
     let l = take a.raw (raw_bars (raw_store a.rt.now a.ri.now a.rp.now)) in
     let k = c.read_new_bar-newest.result in
     let e = c.read_new_bar-newest.ensures in
-    let row : length k.elements ≡ 101 = length_unmapped _ k.elements 101 c.read_new_bar-newest.type_inv.1.1.1.1.0.1.0.1 in
+    let row : length k.elements ≡ 101 = c.read_new_bar-newest.type_inv.1.1.1.1.0.1.0.1 in
     let q = c.merge_elements-kept.ensures in
     record { fact_1 = again-last u t K a.count h l a.b k e row _ _ _ c.start_tail-start.ensures _ _ q; fact_2 = q.0.tied }
 
@@ -81,5 +80,5 @@ returns c =
     let l = take a.raw (raw_bars (raw_store a.rt.now a.ri.now a.rp.now)) in
     let k = c.read_new_bar-newest.result in
     let e = c.read_new_bar-newest.ensures in
-    let row : length k.elements ≡ 101 = length_unmapped _ k.elements 101 c.read_new_bar-newest.type_inv.1.1.1.1.0.1.0.1 in
+    let row : length k.elements ≡ 101 = c.read_new_bar-newest.type_inv.1.1.1.1.0.1.0.1 in
     again_done u t K a.count h l a.b k e row _ _ _ c.start_tail-start.ensures _ _ c.merge_elements-kept.ensures _ _ c.merge_behind-rows.ensures

@@ -1,4 +1,3 @@
-use borrow.Author.Rules.{length_unmapped}
 use native.Mathlib.Omega.{arith}
 use mathlib.Core.Path.{◌≡◌}
 use lib.ListN.{length}
@@ -14,8 +13,8 @@ unfolding stores_of
 ask_early-first-requires c = let a = c.args in
     let s = a.stand in
     let g = c.well_formed.0 in
-    let lb : length s.bars ≡ 65 = length_unmapped _ s.bars 65 g.1.1.1.1.1.1.1.1.0.1.0.1 in
-    let lf : length s.fractals ≡ 65 = length_unmapped _ s.fractals 65 g.1.1.1.1.1.1.1.1.1.0.1.0.1 in
+    let lb : length s.bars ≡ 65 = g.1.1.1.1.1.1.1.1.0.1.0.1 in
+    let lf : length s.fractals ≡ 65 = g.1.1.1.1.1.1.1.1.1.0.1.0.1 in
     let m = stores_of (raw_store a.rt.now a.ri.now a.rp.now) (merged_store a.ut.now a.ui.now a.up.now a.uc.now a.ue.now) (merged_store a.st.now a.si.now a.sp.now a.sc.now a.se.now) (fractal_store a.fs.now a.fp.now) in
     let h = facts s m lb lf c.requires.fact_1 in
     let asked = early_asks s m h in record { fact_1 = asked.0; fact_2 = asked.1 }
@@ -26,8 +25,8 @@ returns-then-failed-ne0 c =
     let a = c.args in
     let s = a.stand in
     let g = c.well_formed.0 in
-    let lb : length s.bars ≡ 65 = length_unmapped _ s.bars 65 g.1.1.1.1.1.1.1.1.0.1.0.1 in
-    let lf : length s.fractals ≡ 65 = length_unmapped _ s.fractals 65 g.1.1.1.1.1.1.1.1.1.0.1.0.1 in
+    let lb : length s.bars ≡ 65 = g.1.1.1.1.1.1.1.1.0.1.0.1 in
+    let lf : length s.fractals ≡ 65 = g.1.1.1.1.1.1.1.1.1.0.1.0.1 in
     let m = stores_of (raw_store a.rt.now a.ri.now a.rp.now) (merged_store a.ut.now a.ui.now a.up.now a.uc.now a.ue.now) (merged_store a.st.now a.si.now a.sp.now a.sc.now a.se.now) (fractal_store a.fs.now a.fp.now) in
     let h = facts s m lb lf c.requires.fact_1 in
     let e = c.ask_early-first.result in
@@ -39,8 +38,8 @@ unfolding stores_of
 total_bars-used-requires c = let a = c.args in
     let s = a.stand in
     let g = c.well_formed.0 in
-    let lb : length s.bars ≡ 65 = length_unmapped _ s.bars 65 g.1.1.1.1.1.1.1.1.0.1.0.1 in
-    let lf : length s.fractals ≡ 65 = length_unmapped _ s.fractals 65 g.1.1.1.1.1.1.1.1.1.0.1.0.1 in
+    let lb : length s.bars ≡ 65 = g.1.1.1.1.1.1.1.1.0.1.0.1 in
+    let lf : length s.fractals ≡ 65 = g.1.1.1.1.1.1.1.1.1.0.1.0.1 in
     let m = stores_of (raw_store a.rt.now a.ri.now a.rp.now) (merged_store a.ut.now a.ui.now a.up.now a.uc.now a.ue.now) (merged_store a.st.now a.si.now a.sp.now a.sc.now a.se.now) (fractal_store a.fs.now a.fp.now) in
     let h = facts s m lb lf c.requires.fact_1 in
     let w = sum-small s m h in
@@ -52,8 +51,8 @@ unfolding stores_of bar_counts
 try_bar-tried-requires c = let a = c.args in
     let s = a.stand in
     let g = c.well_formed.0 in
-    let lb : length s.bars ≡ 65 = length_unmapped _ s.bars 65 g.1.1.1.1.1.1.1.1.0.1.0.1 in
-    let lf : length s.fractals ≡ 65 = length_unmapped _ s.fractals 65 g.1.1.1.1.1.1.1.1.1.0.1.0.1 in
+    let lb : length s.bars ≡ 65 = g.1.1.1.1.1.1.1.1.0.1.0.1 in
+    let lf : length s.fractals ≡ 65 = g.1.1.1.1.1.1.1.1.1.0.1.0.1 in
     let m = stores_of (raw_store a.rt.now a.ri.now a.rp.now) (merged_store a.ut.now a.ui.now a.up.now a.uc.now a.ue.now) (merged_store a.st.now a.si.now a.sp.now a.sc.now a.se.now) (fractal_store a.fs.now a.fp.now) in
     let h = facts s m lb lf c.requires.fact_1 in
     let e = c.ask_early-first.result in
@@ -66,8 +65,8 @@ refused-no-requires c =
     let a = c.args in
     let s = a.stand in
     let g = c.well_formed.0 in
-    let lb : length s.bars ≡ 65 = length_unmapped _ s.bars 65 g.1.1.1.1.1.1.1.1.0.1.0.1 in
-    let lf : length s.fractals ≡ 65 = length_unmapped _ s.fractals 65 g.1.1.1.1.1.1.1.1.1.0.1.0.1 in
+    let lb : length s.bars ≡ 65 = g.1.1.1.1.1.1.1.1.0.1.0.1 in
+    let lf : length s.fractals ≡ 65 = g.1.1.1.1.1.1.1.1.1.0.1.0.1 in
     let m = stores_of (raw_store a.rt.now a.ri.now a.rp.now) (merged_store a.ut.now a.ui.now a.up.now a.uc.now a.ue.now) (merged_store a.st.now a.si.now a.sp.now a.sc.now a.se.now) (fractal_store a.fs.now a.fp.now) in
     let h = facts s m lb lf c.requires.fact_1 in
     let w = (sum-small s m h).1 in
@@ -80,8 +79,8 @@ returns c =
     let a = c.args in
     let s = a.stand in
     let g = c.well_formed.0 in
-    let lb : length s.bars ≡ 65 = length_unmapped _ s.bars 65 g.1.1.1.1.1.1.1.1.0.1.0.1 in
-    let lf : length s.fractals ≡ 65 = length_unmapped _ s.fractals 65 g.1.1.1.1.1.1.1.1.1.0.1.0.1 in
+    let lb : length s.bars ≡ 65 = g.1.1.1.1.1.1.1.1.0.1.0.1 in
+    let lf : length s.fractals ≡ 65 = g.1.1.1.1.1.1.1.1.1.0.1.0.1 in
     let m = stores_of (raw_store a.rt.now a.ri.now a.rp.now) (merged_store a.ut.now a.ui.now a.up.now a.uc.now a.ue.now) (merged_store a.st.now a.si.now a.sp.now a.sc.now a.se.now) (fractal_store a.fs.now a.fp.now) in
     let h = facts s m lb lf c.requires.fact_1 in
     let e = c.ask_early-first.result in

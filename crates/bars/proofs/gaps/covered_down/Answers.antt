@@ -3,7 +3,6 @@ use Rattle.bars.specs.Gaps.{covers_down, row_high, row_low}
 use lib.ListN.{get_or}
 use mathlib.Core.List.{[]}
 use mathlib.Core.Path.{◌∙◌, refl}
-use Prim.Native.Nat.{◌-◌}
 use borrow.Author.Rules.{rules}
 use Rattle.bars.proofs.gaps.covered_down.Goals as goal
 

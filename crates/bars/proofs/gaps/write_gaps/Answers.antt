@@ -2,7 +2,6 @@ use Rattle.bars.proofs.GapPairs.{column_turn}
 use Rattle.bars.proofs.Moves.{copied_none}
 use Rattle.bars.specs.Gaps.{gap_number, gap_values, gap_covered, written}
 use mathlib.Core.Path.{◌≡◌, refl}
-use Prim.Native.Nat.{◌-◌}
 use borrow.Author.Rules.{rules}
 use Rattle.bars.proofs.gaps.write_gaps.Goals as goal
 

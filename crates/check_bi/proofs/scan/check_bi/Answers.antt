@@ -12,4 +12,4 @@ pub found_bi-requires : goal.found_bi-requires
 found_bi-requires c = let s = c.scan_from-s.ensures.small.0 in let k = s.last in let f = s.fits in (s.early, omega arith)
 
 pub returns : goal.returns
-returns c = let a = c.args in let s = c.scan_from-s.ensures in found_law a.minimum a.lo (a.n + a.m - a.lo) (candles (view a.n a.ts.now a.m a.us.now) (view a.n a.ps.now a.m a.qs.now)) _ _ s.0 c.found_bi.ensures s.1.0 s.1.1
+returns c = let a = c.args in let s = c.scan_from-s.ensures in found_law a.minimum a.lo (a.n + a.m - a.lo) (candles (view a.n a.ts.now a.m a.us.now) (view a.n a.ps.now a.m a.qs.now)) _ _ s.value c.found_bi.ensures s.small.0 s.small.1

@@ -2,7 +2,6 @@ use borrow.Author.Rules.{rules}
 use Rattle.arith.proofs.Tests.{holds, fails}
 use borrow.Author.Tests.{not-true, not-false}
 use mathlib.Core.Path.{sym, ◌∙◌}
-use Prim.Native.Nat.{◌-◌}
 use Rattle.csv_text.proofs.NumeralLaws.{left-start, left-turn, left_stop, left_out}
 use Rattle.csv_text.proofs.numerals.digits_from.Goals as goal
 

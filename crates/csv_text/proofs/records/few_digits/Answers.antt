@@ -1,5 +1,4 @@
 use Rattle.csv_text.specs.Code.Fields.{few_digits_in}
-use Rattle.std.proofs.Common.{rules}
 use Rattle.csv_text.proofs.records.few_digits.Goals as goal
 
 pub returns : goal.returns

@@ -1,5 +1,5 @@
 use Rattle.reports.proofs.InnerRawLaws.{put_room, set_lengths}
-use Prim.Native.Nat.{◌<◌, ◌-◌, ◌+◌, min}
+use Prim.Native.Nat.{◌<◌, ◌+◌, min}
 use mathlib.Core.Path.{refl, ◌∙◌}
 use native.Mathlib.Omega.{arith}
 use lib.ListN.{length, take, length-take}

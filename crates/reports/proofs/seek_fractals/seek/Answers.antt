@@ -1,5 +1,4 @@
 use Rattle.stores.specs.Stores.{raw_store}
-use Prim.Native.Nat.{◌-◌}
 use Rattle.reports.proofs.SeekLaws.{seek_start, seek_turn, seek_end}
 use borrow.Author.Rules.{rules}
 use Rattle.reports.proofs.seek_fractals.seek.Goals as goal

@@ -1,3 +1,4 @@
+use borrow.Author.Rules.{rules}
 use mathlib.Core.List.{[], ◌∷◌}
 use mathlib.Core.Path.{ap, sym, ◌∙◌}
 use lib.ListN.{length, take, get_or}
@@ -16,10 +17,10 @@ pub find_time-p-requires : goal.find_time-p-requires
 find_time-p-requires c = record { fact_1 = c.requires.fits; fact_2 = c.requires.rise }
 
 pub returns-then-t-rt : goal.returns-then-t-rt
-returns-then-t-rt c = let a = c.args in let w = raw_store a.rt.now a.ri.now a.rp.now in let s = keeping (length a.rt.now) a.n in let h = rises w a.n c.requires in let e = to_z-of_z w64 a.t c.ranges.t in let j = c.find_time-p.result in let p = c.find_time-p.ensures ∙ ap (λ (x : ℤ). place_of x (take a.n a.rt.now)) e in let x = get_or a.rt.now j (pos 0) in let q = to_z-of_z w64 x (record { sfits = c.t12-1.given }) in named_none (take a.n (raw_bars w)) a.e a.t (none-there s w h a.t j p (to_z w64 (of_z w64 x)) c.if-p-n.true q (ap (λ (y : ℤ). lt_z y (to_z w64 (of_z w64 x))) (sym e) ∙ c.if-t-rt.true))
+returns-then-t-rt c = let a = c.args in let w = raw_store a.rt.now a.ri.now a.rp.now in let s = keeping (length a.rt.now) a.n in let h = rises w a.n c.requires in let e = to_z-of_z w64 a.t c.ranges.t in let j = c.find_time-p.result in let p = c.find_time-p.ensures ∙ ap (λ (x : ℤ). place_of x (take a.n a.rt.now)) e in let x = get_or a.rt.now j (pos 0) in let q = to_z-of_z w64 x (record { sfits = search rules }) in named_none (take a.n (raw_bars w)) a.e a.t (none-there s w h a.t j p (to_z w64 (of_z w64 x)) c.if-p-n.true q (ap (λ (y : ℤ). lt_z y (to_z w64 (of_z w64 x))) (sym e) ∙ c.if-t-rt.true))
 
 pub returns-then-p-n : goal.returns-then-p-n
-returns-then-p-n c = let a = c.args in let w = raw_store a.rt.now a.ri.now a.rp.now in let s = keeping (length a.rt.now) a.n in let h = rises w a.n c.requires in let e = to_z-of_z w64 a.t c.ranges.t in let j = c.find_time-p.result in let p = c.find_time-p.ensures ∙ ap (λ (x : ℤ). place_of x (take a.n a.rt.now)) e in let x = get_or a.rt.now j (pos 0) in let q = to_z-of_z w64 x (record { sfits = c.t12-1.given }) in named-one (take a.n (raw_bars w)) a.e _ a.t c.read_bar-b.result (one-there s w h a.t j p (to_z w64 (of_z w64 x)) c.if-p-n.true q (ap (λ (y : ℤ). lt_z y (to_z w64 (of_z w64 x))) (sym e) ∙ c.if-t-rt.false) ∙ ap (λ b. b ∷ []) (sym c.read_bar-b.ensures)) c.see.ensures
+returns-then-p-n c = let a = c.args in let w = raw_store a.rt.now a.ri.now a.rp.now in let s = keeping (length a.rt.now) a.n in let h = rises w a.n c.requires in let e = to_z-of_z w64 a.t c.ranges.t in let j = c.find_time-p.result in let p = c.find_time-p.ensures ∙ ap (λ (x : ℤ). place_of x (take a.n a.rt.now)) e in let x = get_or a.rt.now j (pos 0) in let q = to_z-of_z w64 x (record { sfits = search rules }) in named-one (take a.n (raw_bars w)) a.e _ a.t c.read_bar-b.result (one-there s w h a.t j p (to_z w64 (of_z w64 x)) c.if-p-n.true q (ap (λ (y : ℤ). lt_z y (to_z w64 (of_z w64 x))) (sym e) ∙ c.if-t-rt.false) ∙ ap (λ b. b ∷ []) (sym c.read_bar-b.ensures)) c.see.ensures
 
 pub returns : goal.returns
 returns c = let a = c.args in let w = raw_store a.rt.now a.ri.now a.rp.now in let s = keeping (length a.rt.now) a.n in let h = rises w a.n c.requires in let e = to_z-of_z w64 a.t c.ranges.t in let j = c.find_time-p.result in let p = c.find_time-p.ensures ∙ ap (λ (x : ℤ). place_of x (take a.n a.rt.now)) e in named_none (take a.n (raw_bars w)) a.e a.t (none_past s w h a.t j p c.if-p-n.false)

@@ -13,42 +13,39 @@ returns-then-k-eq0 c = let k = c.kept-k.ensures in no_strokes _ _ k.1 k.2 c.requ
 
 pub slice_bounds-see_rows-end : goal.slice_bounds-see_rows-end
 unfolding stores_of
-slice_bounds-see_rows-end c = let o = c.?before.before in let k = c.kept.ensures in sym (length-take-le _ _ (counts_fit_lem _ _ k.1 k.2 o.requires))
+slice_bounds-see_rows-end c = let k = c.kept-k.ensures in sym (length-take-le _ _ (counts_fit_lem _ _ k.1 k.2 c.requires))
 
 pub slice_bounds-see_rows-end-2 : goal.slice_bounds-see_rows-end-2
 unfolding stores_of
-slice_bounds-see_rows-end-2 c = let o = c.?before.before.before in let k = c.kept.ensures in sym (length-take-le _ _ (elements_fit _ _ k.1 k.2 o.requires))
+slice_bounds-see_rows-end-2 c = let k = c.kept-k.ensures in sym (length-take-le _ _ (elements_fit _ _ k.1 k.2 c.requires))
 
 pub see_rows-e-requires : goal.see_rows-e-requires
 unfolding stores_of
-see_rows-e-requires c = let o = c.?before.before.before in
-    let k = c.kept.ensures in
-    record { fact_1 = rising-here _ _ k.1 k.2 o.requires; fact_2 = rows_alike _ _ k.1 k.2 o.requires }
+see_rows-e-requires c = let k = c.kept-k.ensures in
+    record { fact_1 = rising-here _ _ k.1 k.2 c.requires; fact_2 = rows_alike _ _ k.1 k.2 c.requires }
 
 pub returns-then-not-e : goal.returns-then-not-e
 unfolding stores_of
-returns-then-not-e c = let o = c.?before.before.before in let k = c.kept.ensures in no_bars _ _ k.1 k.2 o.requires _ _ _ c.none_seen.ensures c.see_rows-e.ensures (not-true _ c.if-not-e.true) c.refused-then-not-e.ensures
+returns-then-not-e c = let k = c.kept-k.ensures in no_bars _ _ k.1 k.2 c.requires _ _ _ c.none_seen-none.ensures c.see_rows-e.ensures (not-true _ c.if-not-e.true) c.refused-then-not-e.ensures
 
 pub scan_from-s-requires : goal.scan_from-s-requires
 unfolding stores_of
-scan_from-s-requires c = let o = c.?before.before.before in
-    let k = c.kept.ensures in
-    record { fact_1 = scan_fits _ _ k.1 k.2 o.requires; fact_2 = clear_none _ }
+scan_from-s-requires c = let k = c.kept-k.ensures in
+    record { fact_1 = scan_fits _ _ k.1 k.2 c.requires; fact_2 = clear_none _ }
 
 pub returns-then-count-eq0 : goal.returns-then-count-eq0
 unfolding stores_of
-returns-then-count-eq0 c = let o = c.?before.before.before in let k = c.kept.ensures in no_fxs _ _ k.1 k.2 o.requires _ _ c.scan_from-s.ensures.value c.if-count-eq0.true c.refused-then-count-eq0.ensures
+returns-then-count-eq0 c = let k = c.kept-k.ensures in no_fxs _ _ k.1 k.2 c.requires _ _ c.scan_from-s.ensures.value c.if-count-eq0.true c.refused-then-count-eq0.ensures
 
 pub last_stroke-b-requires : goal.last_stroke-b-requires
 unfolding stores_of
-last_stroke-b-requires c = let o = c.?before.before.before in
-    let k = c.kept.ensures in
-    let asked = last-asked _ _ k.1 k.2 o.requires (not-zero _ _ k.0 c.if1.false) in record { fact_1 = asked.0; fact_2 = asked.1 }
+last_stroke-b-requires c = let k = c.kept-k.ensures in
+    let asked = last-asked _ _ k.1 k.2 c.requires (not-zero _ _ k.0 c.if-k-eq0.false) in record { fact_1 = asked.0; fact_2 = asked.1 }
 
 pub fractal_at-first-requires : goal.fractal_at-first-requires
 unfolding stores_of
-fractal_at-first-requires c = let o = c.?before.before.before in let k = c.kept.ensures in first-room _ _ k.1 k.2 o.requires _ c.scan_from-s.ensures.value c.if-count-eq0.false
+fractal_at-first-requires c = let k = c.kept-k.ensures in first-room _ _ k.1 k.2 c.requires _ c.scan_from-s.ensures.value c.if-count-eq0.false
 
 pub returns : goal.returns
 unfolding stores_of
-returns c = let o = c.?before.before.before in let k = c.kept.ensures in summed_is _ _ k.1 k.2 o.requires _ _ _ _ _ _ _ (not-zero _ _ k.0 c.if1.false) c.none_seen.ensures c.see_rows-e.ensures (not-false _ c.if-not-e.false) c.scan_from-s.ensures.value c.if-count-eq0.false c.last_stroke-b.ensures c.fractal_at-first.ensures c.turned-direction.ensures c.summed.ensures
+returns c = let k = c.kept-k.ensures in summed_is _ _ k.1 k.2 c.requires _ _ _ _ _ _ _ (not-zero _ _ k.0 c.if-k-eq0.false) c.none_seen-none.ensures c.see_rows-e.ensures (not-false _ c.if-not-e.false) c.scan_from-s.ensures.value c.if-count-eq0.false c.last_stroke-b.ensures c.fractal_at-first.ensures c.turned-direction.ensures c.summed.ensures

@@ -2,19 +2,18 @@ use Rattle.reports.proofs.FxSame.{can_go, fx_no}
 use Rattle.reports.proofs.UnfinishedFxs.{ubi-fxs_yes}
 use Rattle.question4.proofs.Question4Passed.{is-sound}
 use Rattle.strokes.specs.Lent.{stores_of}
-use borrow.Author.Tests.{not-true, not-false}
 use mathlib.Core.Path.{sym, ◌∙◌}
 use Rattle.reports.proofs.ubi_list.ubi_fxs.Goals as goal
 
 pub returns-then-not-is_sound : goal.returns-then-not-is_sound
-returns-then-not-is_sound c = fx_no _ _ _ (sym c.is_sound.ensures ∙ not-true _ c.if-not-is_sound.true-raw)
+returns-then-not-is_sound c = fx_no _ _ _ (sym c.is_sound.ensures ∙ c.if-not-is_sound.true)
 
 pub list_windows-requires : goal.list_windows-requires
 unfolding stores_of
 list_windows-requires c = let k = c.kept-k.ensures in
-    let g = can_go _ _ k.1 k.2 (is-sound _ _ (sym c.is_sound.ensures ∙ not-false _ c.if-not-is_sound.false-raw)) in
+    let g = can_go _ _ k.1 k.2 (is-sound _ _ (sym c.is_sound.ensures ∙ c.if-not-is_sound.false)) in
     record { fact_1 = g.bars; fact_2 = g.few }
 
 pub returns : goal.returns
 unfolding stores_of
-returns c = let k = c.kept-k.ensures in ubi-fxs_yes _ _ k.1 k.2 (sym c.is_sound.ensures ∙ not-false _ c.if-not-is_sound.false-raw) _ _ _ c.list_windows.ensures
+returns c = let k = c.kept-k.ensures in ubi-fxs_yes _ _ k.1 k.2 (sym c.is_sound.ensures ∙ c.if-not-is_sound.false) _ _ _ c.list_windows.ensures

@@ -9,4 +9,4 @@ pub returns-then-m-eq0 : goal.returns-then-m-eq0
 returns-then-m-eq0 c = let a = c.args in newest-empty a.ts.now a.cs.now a.es.now c.if-n-eq0.false c.if-m-eq0.true
 
 pub returns : goal.returns
-returns c = let a = c.?before.before.args in newest-at a.ts.now a.cs.now a.es.now _ c.if1.false c.if2.false (search rules) c.is_last.ensures
+returns c = let a = c.args in newest-at a.ts.now a.cs.now a.es.now _ c.if-n-eq0.false c.if-m-eq0.false (search rules) c.is_last.ensures

@@ -9,8 +9,8 @@ loop-i-init c = (search rules, refl)
 
 pub loop-i-preserved : goal.loop-i-preserved
 loop-i-preserved c =
-    let a = c.?before.before.args in
-    let l = c.loop in
+    let a = c.args in
+    let l = c.loop-i in
     (search rules, rows-turn a.ts.now a.cs.now a.es.now l.i l.ok _ _ _ (search rules) (search rules) c.row_named-s.ensures c.both-ok.ensures l.invariant.1)
 
 pub returns : goal.returns

@@ -13,13 +13,13 @@ loop-i-init c = (search rules, refl)
 
 pub returns-then-not-stamps_in_time : goal.returns-then-not-stamps_in_time
 returns-then-not-stamps_in_time c =
-    let l = c.loop in
-    every_stop stamps_pass c.?before.before.args.fs.now l.i [] _ _ (search rules) c.stamps_in_time.ensures l.invariant.1 (not-true _ c.if-not-stamps_in_time.true-raw)
+    let l = c.loop-i in
+    every_stop stamps_pass c.args.fs.now l.i [] _ _ (search rules) c.stamps_in_time.ensures l.invariant.1 (not-true _ c.if-not-stamps_in_time.true-raw)
 
 pub loop-i-preserved : goal.loop-i-preserved
 loop-i-preserved c =
-    let l = c.loop in
-    (search rules, every_on stamps_pass c.?before.before.args.fs.now l.i [] _ _ (search rules) c.stamps_in_time.ensures l.invariant.1 (not-false _ c.if-not-stamps_in_time.false-raw))
+    let l = c.loop-i in
+    (search rules, every_on stamps_pass c.args.fs.now l.i [] _ _ (search rules) c.stamps_in_time.ensures l.invariant.1 (not-false _ c.if-not-stamps_in_time.false-raw))
 
 pub returns : goal.returns
 returns c = every-end stamps_pass c.args.fs.now c.loop-i.i true _ (search rules) c.loop-i.invariant.1

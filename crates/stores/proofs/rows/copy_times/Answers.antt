@@ -1,5 +1,4 @@
 use borrow.Author.Rules.{rules}
-use Prim.Native.Nat.{◌-◌}
 use mathlib.Core.Path.{refl}
 use lib.IntN.{pos}
 use Rattle.bars.proofs.Moves.{copied_none, copy_turn, copied-end}

@@ -1,5 +1,4 @@
 use borrow.Author.Rules.{rules}
-use Prim.Native.Nat.{◌-◌}
 use mathlib.Core.Path.{refl}
 use Rattle.stores.proofs.InUse.{rows_none, down-rows-turn, rows_end}
 use Rattle.stores.proofs.rows.down_in_use.Goals as goal

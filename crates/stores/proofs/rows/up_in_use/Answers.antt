@@ -1,5 +1,4 @@
 use borrow.Author.Rules.{rules}
-use Prim.Native.Nat.{◌-◌}
 use mathlib.Core.Path.{refl}
 use Rattle.stores.proofs.InUse.{up-rows-none, up-rows-turn, up-rows-end}
 use Rattle.stores.proofs.rows.up_in_use.Goals as goal

@@ -6,7 +6,6 @@ use Rattle.stores.specs.Stores.{RawStore, raw_store, raw_bars}
 use lib.ListN.{take, length}
 use mathlib.Core.List.{◌++◌}
 use mathlib.Core.Path.{◌∙◌, refl, ap}
-use Prim.Native.Nat.{◌+◌}
 use native.Mathlib.Omega.{arith}
 use borrow.Author.Rules.{rules}
 use Rattle.stores.proofs.tails.merge_into_tail.Goals as goal

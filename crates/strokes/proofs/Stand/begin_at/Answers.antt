@@ -12,4 +12,4 @@ returns c =
     let p = c.requires in
     let m = merged_store a.ut.now a.ui.now a.up.now a.uc.now a.ue.now in
     let moved = c.move_new_bars_down.ensures in
-    (begun-at a.self _ m _ p.0 a.k p.1.0 p.1.1 moved refl, stay_moved m _ a.k a.self.unfinished a.self.rooms.unfinished p.0 p.1.1 p.1.0 moved.rows.counts)
+    (begun-at a.self _ m _ p.fact_1 a.k p.fact_2 p.fact_3 moved refl, stay_moved m _ a.k a.self.unfinished a.self.rooms.unfinished p.fact_1 p.fact_3 p.fact_2 moved.rows.counts)

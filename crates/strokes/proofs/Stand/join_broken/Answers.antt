@@ -14,20 +14,20 @@ use Rattle.strokes.proofs.Stand.join_broken.Goals as goal
 
 pub overflow_sub-left : goal.overflow_sub-left
 overflow_sub-left c =
-    let a = c.?before.before.args in
+    let a = c.args in
     let u = merged_store a.ut.now a.ui.now a.up.now a.uc.now a.ue.now in
     let k = merged_store a.st.now a.si.now a.sp.now a.sc.now a.se.now in
-    let t = to_z-of_z w64 (get_or a.st.now (a.at + (a.rows - 2)) (pos 0)) (record { sfits = c.t.given }) in
-    let jn = join-place a.self u k a.at a.rows _ c.?before.before.requires (c.count_before-j.ensures ∙ ap (λ (x : ℤ). place_of x (take a.self.unfinished a.ut.now)) t) in
+    let t = to_z-of_z w64 (get_or a.st.now (a.at + (a.rows - 2)) (pos 0)) (record { sfits = c.t-1.given }) in
+    let jn = join-place a.self u k a.at a.rows _ c.requires (c.count_before-j.ensures ∙ ap (λ (x : ℤ). place_of x (take a.self.unfinished a.ut.now)) t) in
     omega arith
 
 pub bring-requires : goal.bring-requires
 bring-requires c =
-    let a = c.?before.before.args in
-    let h = c.?before.before.requires in
+    let a = c.args in
+    let h = c.requires in
     let u = merged_store a.ut.now a.ui.now a.up.now a.uc.now a.ue.now in
     let k = merged_store a.st.now a.si.now a.sp.now a.sc.now a.se.now in
-    let t = to_z-of_z w64 (get_or a.st.now (a.at + (a.rows - 2)) (pos 0)) (record { sfits = c.t.given }) in
+    let t = to_z-of_z w64 (get_or a.st.now (a.at + (a.rows - 2)) (pos 0)) (record { sfits = c.t-1.given }) in
     let p = c.count_before-j.ensures ∙ ap (λ (x : ℤ). place_of x (take a.self.unfinished a.ut.now)) t in
     let jn = join-place a.self u k a.at a.rows _ h p in
     let fits = h.fits in
@@ -35,11 +35,11 @@ bring-requires c =
 
 pub join_new_bars-requires : goal.join_new_bars-requires
 join_new_bars-requires c =
-    let a = c.?before.before.args in
-    let h = c.?before.before.requires in
+    let a = c.args in
+    let h = c.requires in
     let u = merged_store a.ut.now a.ui.now a.up.now a.uc.now a.ue.now in
     let k = merged_store a.st.now a.si.now a.sp.now a.sc.now a.se.now in
-    let t = to_z-of_z w64 (get_or a.st.now (a.at + (a.rows - 2)) (pos 0)) (record { sfits = c.t.given }) in
+    let t = to_z-of_z w64 (get_or a.st.now (a.at + (a.rows - 2)) (pos 0)) (record { sfits = c.t-1.given }) in
     let p = c.count_before-j.ensures ∙ ap (λ (x : ℤ). place_of x (take a.self.unfinished a.ut.now)) t in
     let within = h.within in
     (room_of k a.self.rooms.strokes _ h.strokes (omega arith), join-after a.self u k a.at a.rows _ h p _ c.bring.ensures)
@@ -47,12 +47,12 @@ join_new_bars-requires c =
 pub returns : goal.returns
 unfolding with_unfinished without_last
 returns c =
-    let a = c.?before.before.args in
+    let a = c.args in
     let u = merged_store a.ut.now a.ui.now a.up.now a.uc.now a.ue.now in
     let k = merged_store a.st.now a.si.now a.sp.now a.sc.now a.se.now in
-    let t = to_z-of_z w64 (get_or a.st.now (a.at + (a.rows - 2)) (pos 0)) (record { sfits = c.t.given }) in
+    let t = to_z-of_z w64 (get_or a.st.now (a.at + (a.rows - 2)) (pos 0)) (record { sfits = c.t-1.given }) in
     let p = c.count_before-j.ensures ∙ ap (λ (x : ℤ). place_of x (take a.self.unfinished a.ut.now)) t in
-    let h = c.?before.before.requires in
+    let h = c.requires in
     let brings = c.bring.ensures in
     let joins = c.join_new_bars.ensures in
     (was_joined a.self u k a.at a.rows _ h p _ _ _ brings joins refl, stay_joined a.self u k _ _ a.at a.rows _ h (join-place a.self u k a.at a.rows _ h p) (join-room a.self u k a.at a.rows _ h p) brings.rows.counts joins.rows.counts)

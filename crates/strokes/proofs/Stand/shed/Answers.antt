@@ -11,22 +11,25 @@ total_bars-used-requires c = let k = c.requires.fact_2 in
     record { fact_1 = k.strokes; fact_2 = omega arith }
 
 pub overflow_sub-used : goal.overflow_sub-used
-overflow_sub-used c = let a = start (summed c) in first-within a.args.self.bars a.args.self.strokes _ a.pre.0 (summed c).total-bars.ensures
+overflow_sub-used c = let a = c.args in first-within a.self.bars a.self.strokes _ c.requires.fact_1 c.total_bars-used.ensures
 
 pub move_new_bars_down-requires : goal.move_new_bars_down-requires
-move_new_bars_down-requires c = let a = start (summed c) in (omega arith, shed-rooms a.args.self _ _ _ a.pre.1 a.pre.0 (summed c).total-bars.ensures)
+move_new_bars_down-requires c =
+    let a = c.args in
+    let p = c.requires in
+    (omega arith, shed-rooms a.self _ _ _ p.fact_2 p.fact_1 c.total_bars-used.ensures)
 
 pub move_fractals_down-requires : goal.move_fractals_down-requires
-move_fractals_down-requires c = let a = start (summed (moved c).before) in
-    let asked = (a.pre.1.strokes, shed-fractals a.args.self _ _ a.pre.1 a.pre.0) in record { fact_1 = asked.0; fact_2 = asked.1.0; fact_3 = asked.1.1 }
+move_fractals_down-requires c =
+    let p = c.requires in
+    let moved = shed-fractals c.args.self _ _ p.fact_2 p.fact_1 in
+    record { fact_1 = p.fact_2.strokes; fact_2 = moved.0; fact_3 = moved.1 }
 
 pub shed_counts-requires : goal.shed_counts-requires
-shed_counts-requires c = let a = start (summed (moved c.before.before.before).before) in (a.pre.0, a.pre.1.strokes)
+shed_counts-requires c = let p = c.requires in (p.fact_1, p.fact_2.strokes)
 
 pub returns : goal.returns
 returns c =
-    let m = moved f.before in
-    let t = summed m.before in
-    let a = start t in
+    let p = c.requires in
     let s = c.shed_counts.ensures in
-    shed_done a.args.self _ _ _ _ _ t.total_bars.result a.pre.1 a.pre.0 t.total_bars.ensures m.move_new_bars_down.ensures c.move_fractals_down.ensures s.0 s.1 s.2
+    shed_done c.args.self _ _ _ _ _ c.total_bars-used.result p.fact_2 p.fact_1 c.total_bars-used.ensures c.move_new_bars_down.ensures c.move_fractals_down.ensures s.0 s.1 s.2

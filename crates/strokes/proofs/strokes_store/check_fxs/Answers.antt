@@ -5,7 +5,6 @@ use Rattle.machine.specs.declared.Mark.TheVariants.{D}
 use Rattle.stores.specs.Stores.{raw_store}
 use mathlib.Core.Path.{refl}
 use native.Mathlib.Omega.{arith}
-use Prim.Native.Nat.{◌-◌}
 use borrow.Author.Rules.{rules}
 use Rattle.strokes.proofs.strokes_store.check_fxs.Goals as goal
 
@@ -21,7 +20,7 @@ loop-i-preserved c =
     let h = c.loop-i-test.true in
     let e = c.put_window-w.ensures in
     let s = writing l.fs l.fp l.w in
-    let t = write_turn (raw_store a.ut.now a.ui.now a.up.now) (fractal_store a.fs.now a.fp.now) a.at a.end l.i s _ _ _ _ (fractals_between (raw_store a.ut.now a.ui.now a.up.now) a.first a.end) p.1.0 h c.read_bar-a.ensures c.read_bar-b.ensures c.read_bar-c.ensures e (record { stamps = omega arith; prices = omega arith }) n.5 in
+    let t = write_turn (raw_store a.ut.now a.ui.now a.up.now) (fractal_store a.fs.now a.fp.now) a.at a.end l.i s _ _ _ _ (fractals_between (raw_store a.ut.now a.ui.now a.up.now) a.first a.end) p.fact_2 h c.read_bar-a.ensures c.read_bar-b.ensures c.read_bar-c.ensures e (record { stamps = omega arith; prices = omega arith }) n.5 in
     (omega arith, omega arith, omega (arith, write_more a.at s _ _ _ _ e), t.stamps.size, t.prices.size, t)
 
 pub returns : goal.returns

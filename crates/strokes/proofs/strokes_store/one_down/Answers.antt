@@ -4,7 +4,6 @@ use Rattle.bars.proofs.Moves.{copied_none, copied-end}
 use lib.ListN.{length}
 use mathlib.Core.Path.{◌≡◌, refl}
 use native.Mathlib.Omega.{arith}
-use Prim.Native.Nat.{◌-◌}
 use borrow.Author.Rules.{rules}
 use Rattle.strokes.proofs.strokes_store.one_down.Goals as goal
 

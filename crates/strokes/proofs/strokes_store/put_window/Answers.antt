@@ -1,6 +1,5 @@
 use Rattle.strokes.proofs.StoredFractals.{top_read, bottom_read}
 use Rattle.strokes.specs.Code.StrokeSteps.{put_window, put_window_if}
-use mathlib.Core.Bool.{true, false}
 use Rattle.strokes.proofs.strokes_store.put_window.Goals as goal
 
 pub returns-then-is_top : goal.returns-then-is_top

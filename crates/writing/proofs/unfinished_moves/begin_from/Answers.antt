@@ -6,10 +6,10 @@ use Rattle.writing.proofs.unfinished_moves.begin_from.Goals as goal
 
 pub returns-then-k-eq0 : goal.returns-then-k-eq0
 unfolding with_unfinished
-returns-then-k-eq0 c = let a = c.args in let p = c.requires in (begun-none a.stand (merged_store a.ut.now a.ui.now a.up.now a.uc.now a.ue.now) a.k p.0 p.1.0 c.if-k-eq0.true, λ t. t)
+returns-then-k-eq0 c = let a = c.args in let p = c.requires in (begun-none a.stand (merged_store a.ut.now a.ui.now a.up.now a.uc.now a.ue.now) a.k p.fact_1 p.fact_2 c.if-k-eq0.true, λ t. t)
 
 pub begin_at-requires : goal.begin_at-requires
-begin_at-requires c = let asked = c.requires in record { fact_1 = asked.0; fact_2 = asked.1.0; fact_3 = asked.1.1 }
+begin_at-requires c = let asked = c.requires in record { fact_1 = asked.fact_1; fact_2 = asked.fact_2; fact_3 = asked.fact_3 }
 
 pub shape_of-ut : goal.shape_of-ut
 shape_of-ut c = c.begin_at.ensures.0.sized.raw.times ∙ sym c.requires.fact_1.raw.times

@@ -24,7 +24,7 @@ pub bars_at-rows-requires : goal.bars_at-rows-requires
 bars_at-rows-requires c = let p = c.requires.fact_4 in let one = p.kept in let most = p.most in omega arith
 
 pub join_broken-requires : goal.join_broken-requires
-join_broken-requires c = let a = c.args in let p = c.requires in rw c.bars_at-rows.ensures (can_join a.stand _ _ c.total_bars-at.result p.0 p.1.0 p.1.1.0 p.1.1.1 c.total_bars-at.ensures)
+join_broken-requires c = let a = c.args in let p = c.requires in rw c.bars_at-rows.ensures (can_join a.stand _ _ c.total_bars-at.result p.fact_1 p.fact_2 p.fact_3 p.fact_4 c.total_bars-at.ensures)
 
 pub shape_of-ut : goal.shape_of-ut
 unfolding without_last
@@ -54,4 +54,4 @@ returns c = let a = c.args in
     let at = c.total_bars-at in
     let rows = c.bars_at-rows.ensures in
     let l = kept_unfinished a.stand (merged_store a.ut.now a.ui.now a.up.now a.uc.now a.ue.now) in
-    record { has_unfinished = joined-last a.stand (merged_store a.ut.now a.ui.now a.up.now a.uc.now a.ue.now) (merged_store a.st.now a.si.now a.sp.now a.sc.now a.se.now) at.result c.bars_at-rows.result _ _ l at.ensures rows j.0; stay_sized = (λ t. j.1 (subst (λ (x : ℕ). T (elements_sized (at.result + x) (merged_store a.st.now a.si.now a.sp.now a.sc.now a.se.now))) (sym rows) (last-elements a.stand (merged_store a.st.now a.si.now a.sp.now a.sc.now a.se.now) at.result one at.ensures t)), ) }
+    record { has_unfinished = joined-last a.stand (merged_store a.ut.now a.ui.now a.up.now a.uc.now a.ue.now) (merged_store a.st.now a.si.now a.sp.now a.sc.now a.se.now) at.result c.bars_at-rows.result _ _ l at.ensures rows j.0; stay_sized = λ t. j.1 (subst (λ (x : ℕ). T (elements_sized (at.result + x) (merged_store a.st.now a.si.now a.sp.now a.sc.now a.se.now))) (sym rows) (last-elements a.stand (merged_store a.st.now a.si.now a.sp.now a.sc.now a.se.now) at.result one at.ensures t)) }

@@ -14,12 +14,12 @@ bounds-fractals-i c = let p = c.requires.place in search rules
 pub put_fakes-count-requires : goal.put_fakes-count-requires
 unfolding fractal_number
 put_fakes-count-requires c = let a = c.args in
-    record { fact_1 = c.requires; fact_2 = fakes-room a.stand (fractal_store a.fs.now a.fp.now) a.i c.fake_count-n.result (fake_columns a.ot.now a.op.now a.od.now) c.fits2.result c.fake_count-n.ensures c.fits2.ensures c.if-fits.true }
+    record { fact_1 = c.requires; fact_2 = fakes-room a.stand (fractal_store a.fs.now a.fp.now) a.i c.fake_count-n.result (fake_columns a.ot.now a.op.now a.od.now) c.fits.result c.fake_count-n.ensures c.fits.ensures c.if-fits.true }
 
 pub returns-then-fits : goal.returns-then-fits
 unfolding fractal_number
-returns-then-fits c = let a = c.args in fakes_put a.stand (fractal_store a.fs.now a.fp.now) a.i c.fake_count-n.result (fake_columns a.ot.now a.op.now a.od.now) c.fits2.result c.fake_count-n.ensures c.fits2.ensures c.put_fakes-count.result _ c.if-fits.true c.put_fakes-count.ensures.0 c.put_fakes-count.ensures.1
+returns-then-fits c = let a = c.args in fakes_put a.stand (fractal_store a.fs.now a.fp.now) a.i c.fake_count-n.result (fake_columns a.ot.now a.op.now a.od.now) c.fits.result c.fake_count-n.ensures c.fits.ensures c.put_fakes-count.result _ c.if-fits.true c.put_fakes-count.ensures.0 c.put_fakes-count.ensures.1
 
 pub returns : goal.returns
 unfolding fractal_number
-returns c = let a = c.args in fakes_full a.stand (fractal_store a.fs.now a.fp.now) a.i c.fake_count-n.result (fake_columns a.ot.now a.op.now a.od.now) c.fits2.result c.fake_count-n.ensures c.fits2.ensures c.if-fits.false
+returns c = let a = c.args in fakes_full a.stand (fractal_store a.fs.now a.fp.now) a.i c.fake_count-n.result (fake_columns a.ot.now a.op.now a.od.now) c.fits.result c.fake_count-n.ensures c.fits.ensures c.if-fits.false

@@ -1,5 +1,4 @@
 use borrow.Author.Rules.{rules}
-use Prim.Native.Nat.{◌-◌}
 use native.Mathlib.Omega.{arith}
 use Rattle.zones.specs.FakeRows.{fake_columns}
 use Rattle.zones.proofs.FakeReads.{writing-none, writing-turn, writing-end, room-fakes}

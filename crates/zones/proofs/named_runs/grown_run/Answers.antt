@@ -1,5 +1,4 @@
 use borrow.Author.Rules.{rules}
-use Prim.Native.Nat.{◌-◌}
 use native.Mathlib.Omega.{arith}
 use Rattle.zones.specs.Code.GrowingRun.{more_of}
 use Rattle.zones.proofs.StrokesReadLaws.{run-turn, run_end}

@@ -1,5 +1,4 @@
 use borrow.Author.Rules.{rules}
-use Prim.Native.Nat.{◌-◌}
 use native.Mathlib.Omega.{arith}
 use Rattle.zones.specs.ZoneRows.{stroke_columns}
 use Rattle.zones.proofs.ZoneWalks.{listed-none, listed-turn, listed-end, room-strokes}
@@ -18,7 +17,7 @@ pub write_stroke-requires : goal.write_stroke-requires
 write_stroke-requires c = let a = c.args in let l = c.loop-j in let w = l.invariant.1 in room-strokes (stroke_columns a.bt.now a.bp.now a.bd.now) _ a.count l.j c.requires.fact_2 w.times w.prices w.codes c.loop-j-test.true
 
 pub loop-j-preserved : goal.loop-j-preserved
-loop-j-preserved c = let a = c.args in let l = c.loop-j in (search rules, listed-turn a.t1 l.j a.count _ (stroke_columns l.bt l.bp l.bd) _ _ c.requires.fact_2 c.loop-j-test.true (search rules) l.invariant.1 c.write_stroke.ensures)
+loop-j-preserved c = let a = c.args in let l = c.loop-j in (search rules, listed-turn a.run l.j a.count _ (stroke_columns l.bt l.bp l.bd) _ _ c.requires.fact_2 c.loop-j-test.true (search rules) l.invariant.1 c.write_stroke.ensures)
 
 pub shape_of-bt : goal.shape_of-bt
 shape_of-bt c = c.loop-j.invariant.1.times

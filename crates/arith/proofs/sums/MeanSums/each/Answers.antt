@@ -1,4 +1,4 @@
-use Rattle.std.proofs.Common.{◌-◌, refl, rules}
+use Rattle.std.proofs.Common.{refl, rules}
 use lib.Ieee.{nan}
 use Rattle.arith.specs.Code.Accumulators.{mean_more}
 use Rattle.arith.proofs.SumLaws.{fold_turn, fold_end}

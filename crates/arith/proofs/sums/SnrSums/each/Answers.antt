@@ -1,5 +1,5 @@
 use Rattle.arith.proofs.SumLaws.{pair_turn, pair_end}
-use Rattle.std.proofs.Common.{◌-◌, refl, rules}
+use Rattle.std.proofs.Common.{refl, rules}
 use Rattle.arith.proofs.sums.SnrSums.each.Goals as goal
 
 pub loop-i-init : goal.loop-i-init

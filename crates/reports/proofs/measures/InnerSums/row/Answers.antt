@@ -1,4 +1,4 @@
-use Prim.Native.Nat.{◌<◌, ◌-◌, min}
+use Prim.Native.Nat.{◌<◌, min}
 use mathlib.Core.Path.{refl, ap, ◌∙◌, subst}
 use mathlib.Core.List.{List}
 use lib.ListN.{length, get_or}

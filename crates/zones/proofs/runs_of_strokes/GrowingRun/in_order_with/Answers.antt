@@ -1,3 +1,4 @@
+use borrow.Author.Rules.{rules}
 use mir.ValLaws.{to_z-of_z}
 use mir.Syntax.{w64}
 use Rattle.zones.specs.Code.GrowingRun.{in_order_with}
@@ -5,7 +6,7 @@ use Rattle.zones.proofs.runs_of_strokes.GrowingRun.in_order_with.Goals as goal
 
 pub returns-then-self : goal.returns-then-self
 unfolding in_order_with
-returns-then-self c = let a = c.args in rw c.if-self.true (cc (c.earlier.ensures, to_z-of_z w64 a.self.last.ended (record { sfits = c.struct_told-1.given.1.1.1.1.0.1 }), to_z-of_z w64 a.s.ended (record { sfits = c.struct_told-2-1.given.1.1.1.1.0.1 })))
+returns-then-self c = let a = c.args in rw c.if-self.true (cc (c.earlier.ensures, to_z-of_z w64 a.self.last.ended (record { sfits = search rules }), to_z-of_z w64 a.s.ended (record { sfits = search rules })))
 
 pub returns : goal.returns
 unfolding in_order_with
