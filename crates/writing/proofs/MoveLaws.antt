@@ -410,3 +410,9 @@ module _ (s : Stand) (u k : MergedStore) (f : FractalStore) (p : Plan) (h : CanM
           shed = d ∙ ap shed_count (e ∙ o);
           elements = λ eu ek. let z = g.elements eu ek in (subst (λ (n : ℕ). T (elements_sized n u')) (sym un) z.0, w.elements z.1);
         }
+
+-- the unfinished store keeps its length
+pub left-sized : (t : Bool) (v r : Stand) (w : MergedStore) (L : List Merged) (x : Rooms) → HasUnfinished (left_stand t v) r w L → v.rooms ≡ x → SizedMerged w x.unfinished
+unfolding left_stand without_last
+left-sized true v r w L x h e = subst (λ (z : Rooms). SizedMerged w z.unfinished) e h.sized
+left-sized false v r w L x h e = subst (λ (z : Rooms). SizedMerged w z.unfinished) e h.sized

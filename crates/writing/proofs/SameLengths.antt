@@ -1,11 +1,16 @@
 -- Two stands of the same settings: the stores that each records have the same lengths, column by column.
+use mathlib.Core.Bool.{Bool}
 use mathlib.Core.Path.{◌≡◌, ap, sym, ◌∙◌}
 use lib.ListN.{length}
 use lib.Dec.{T}
+use Rattle.bars.specs.declared.Bar.{Bar}
 use Rattle.machine.specs.Stand.{Settings}
 use Rattle.strokes.specs.declared.Stand.{Stand}
 use Rattle.strokes.specs.StateRead.{settings_of, sized}
 use Rattle.strokes.specs.Lent.{Stores}
+use Rattle.writing.specs.declared.Wrote.{Wrote}
+use Rattle.writing.specs.Code.Written.{CanWrite, IsWritten}
+use Rattle.asking.specs.declared.plan.Plan.{Plan}
 use Rattle.sound.proofs.NewestLaws.{lengths}
 
 pub record SameLengths (m k : Stores) : Type 0 where
@@ -50,3 +55,7 @@ lengths_of s t m k h g e =
       fs = b.fractals.0 ∙ z ∙ sym a.fractals.0;
       fp = b.fractals.1 ∙ z ∙ sym a.fractals.1;
     }
+
+-- what is written leaves every column its length
+pub written_lengths : {s : Stand} {m m' : Stores} {b : Bar} {later : Bool} {p : Plan} {r : Wrote} → CanWrite s m b later p → IsWritten s m b r m' → SameLengths m m'
+written_lengths {s = s} {m = m} {m' = m'} {r = r} h w = lengths_of s r.stand m m' h.sound.sizes w.sizes w.settings
