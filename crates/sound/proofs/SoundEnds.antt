@@ -1,15 +1,15 @@
 -- The fractals of a stroke read off their columns: marks that alternate, and ends that are held. Assumes nothing.
-use Prim.Native.Nat.{ℕ, zero, suc, ◌+◌, ◌-◌, ◌*◌, ◌/◌, ◌≤◌, ◌<◌}
+use Prim.Native.Nat.{ℕ, zero, suc, ◌-◌, ◌*◌, ◌/◌, ◌≤◌, ◌<◌}
 use native.Mathlib.Omega.{arith}
-use mathlib.Core.Path.{◌≡◌, refl, ap, sym, ◌∙◌, subst}
-use mathlib.Core.Bool.{Bool, true, false, not, ◌&&◌, ◌||◌, cond}
+use mathlib.Core.Path.{◌≡◌, refl, ap, sym, ◌∙◌}
+use mathlib.Core.Bool.{Bool, true, false, ◌&&◌, ◌||◌, cond}
 use mathlib.Core.List.{List, [], ◌∷◌, map}
-use mathlib.Core.Option.{Option, none, some}
-use lib.ListN.{length, take, drop, get_or}
-use lib.IntN.{ℤ, pos}
+use mathlib.Core.Option.{none, some}
+use lib.ListN.{length, get_or}
+use lib.IntN.{ℤ}
 use lib.Signed.{le_z}
-use lib.Dec.{T, leb}
-use lib.Ieee.{Float, nan, eq}
+use lib.Dec.{T}
+use lib.Ieee.{Float, eq}
 use lib.Ieee.Fits.{and_l, and_r}
 use Rattle.arith.proofs.FloatOrder.{eq-left, eq_refl, or_r}
 use Rattle.bars.specs.Lists.{some_of}

@@ -1,11 +1,10 @@
 -- What a step may count on once question 4 has passed: each clause of soundness, the lengths and counts of the stores, and what stands last in them.
 -- Assumes nothing.
-use Prim.Native.Nat.{ℕ, zero, suc, ◌+◌, ◌≤◌}
+use Prim.Native.Nat.{ℕ, ◌+◌, ◌≤◌}
 use native.Mathlib.Omega.{arith}
-use mathlib.Core.Path.{◌≡◌, refl, ap, sym, ◌∙◌, subst}
-use mathlib.Core.Bool.{Bool, true, false, ◌&&◌}
+use mathlib.Core.Path.{◌≡◌, refl, ◌∙◌}
+use mathlib.Core.Bool.{Bool, true, ◌&&◌}
 use mathlib.Core.List.{List, [], ◌∷◌}
-use mathlib.Core.Option.{Option, none, some}
 use lib.ListN.{length, take, drop, length-take, length-drop}
 use lib.Seq.{length-take-le}
 use lib.IntN.{ℤ}
@@ -16,7 +15,7 @@ use Rattle.bars.specs.Bars.{Merged}
 use Rattle.bars.specs.Lists.{every, last}
 use Rattle.stores.specs.Stores.{merged_bars}
 use Rattle.stores.specs.Code.StoreRows.{SizedRaw, SizedMerged, rising}
-use Rattle.stores.proofs.Columns.{raw-length, merged-length}
+use Rattle.stores.proofs.Columns.{merged-length}
 use Rattle.strokes.specs.declared.Stand.{Stand}
 use Rattle.machine.specs.Fractals.{Fractal}
 use Rattle.machine.specs.Stand.{Settings, State}

@@ -1,13 +1,11 @@
 -- One stroke and all strokes pass the clauses of soundness where their columns do. Assumes nothing.
-use Prim.Native.Nat.{ℕ, zero, suc, ◌+◌, ◌-◌, ◌*◌, ◌/◌, ◌≤◌, ◌<◌, min}
+use Prim.Native.Nat.{ℕ, zero, suc, ◌+◌, ◌-◌, ◌*◌, ◌/◌, ◌≤◌, min}
 use native.Mathlib.Nat.{zero-add}
 use native.Mathlib.Omega.{arith}
 use mathlib.Core.Path.{◌≡◌, refl, ap, sym, ◌∙◌, subst}
 use mathlib.Core.Bool.{Bool, true, false, ◌&&◌}
 use mathlib.Core.List.{List, [], ◌∷◌, map}
-use mathlib.Core.Option.{none}
 use lib.ListN.{length, take, drop, get_or, length-take, length-drop}
-use lib.Seq.{length-take-le, take-take}
 use lib.IntN.{ℤ}
 use lib.Dec.{T, leb, ltb, leb→le}
 use lib.Ieee.{Float}

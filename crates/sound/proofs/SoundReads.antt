@@ -1,13 +1,13 @@
 -- The columns of a store say the same as the bars that are read off them. Assumes nothing.
-use Prim.Native.Nat.{ℕ, zero, suc, ◌+◌, ◌-◌, ◌*◌, ◌≤◌, ◌<◌}
+use Prim.Native.Nat.{ℕ, suc, ◌-◌, ◌*◌}
 use native.Mathlib.Omega.{arith}
 use mathlib.Core.Path.{◌≡◌, refl, ap, sym, ◌∙◌}
-use mathlib.Core.Bool.{Bool, true, false, not, ◌&&◌, ◌||◌, cond}
+use mathlib.Core.Bool.{Bool, true, false, ◌&&◌, ◌||◌}
 use mathlib.Core.List.{List, [], ◌∷◌, map}
 use mathlib.Core.Option.{Option, none, some}
 use lib.ListN.{length, take, drop, get_or}
 use lib.IntN.{ℤ, pos}
-use lib.Ieee.{Float, nan, lt, eq}
+use lib.Ieee.{Float, nan, lt}
 use lib.Seq.{get_or-take, get_or-drop}
 use borrow.Author.Tests.{lt-leb}
 use Rattle.bars.specs.declared.Bar.{Bar}

@@ -2,14 +2,14 @@
 use Prim.Native.Nat.{ℕ, zero, suc, ◌+◌, ◌-◌, ◌*◌, ◌/◌, ◌≤◌, ◌<◌}
 use borrow.Author.Tests.{le-leb}
 use native.Mathlib.Omega.{arith}
-use mathlib.Core.Path.{◌≡◌, refl, ap, sym, ◌∙◌, subst}
-use mathlib.Core.Bool.{Bool, true, false, not, ◌&&◌}
+use mathlib.Core.Path.{◌≡◌, refl, ap, sym, ◌∙◌}
+use mathlib.Core.Bool.{Bool, true, false, ◌&&◌}
 use mathlib.Core.List.{List, [], ◌∷◌, map}
-use lib.ListN.{length, take, drop, get_or, length-drop, length-map, get_or-map}
-use lib.Seq.{drop-cons, take-length}
+use lib.ListN.{length, drop, get_or, length-drop, length-map, get_or-map}
+use lib.Seq.{drop-cons}
 use lib.IntN.{ℤ, pos}
 use lib.Signed.{lt_z, le_z}
-use lib.Dec.{T, not_T, T_not}
+use lib.Dec.{T, T_not}
 use lib.Ieee.{Float}
 use lib.Ieee.Fits.{and_l, and_r}
 use Rattle.arith.proofs.Tests.{and_assoc, and_true, yes, holds, fails, pair, same}

@@ -1,14 +1,14 @@
 -- What the walk over the kept strokes cites. Assumes nothing.
-use Prim.Native.Nat.{ℕ, zero, suc, ◌+◌, ◌-◌, ◌≤◌, ◌<◌}
+use Prim.Native.Nat.{ℕ, suc, ◌+◌, ◌-◌, ◌≤◌, ◌<◌}
 use native.Mathlib.Omega.{arith}
-use mathlib.Core.Path.{◌≡◌, refl, ap, sym, ◌∙◌, subst}
+use mathlib.Core.Path.{◌≡◌, ap, sym, ◌∙◌, subst}
 use mathlib.Core.Bool.{Bool, true, false, ◌&&◌}
-use mathlib.Core.List.{List, [], ◌∷◌}
+use mathlib.Core.List.{List, []}
 use lib.ListN.{length, take, drop, get_or, length-drop, length-take, drop_of_length-le}
 use lib.Seq.{take_all, drop-cons, drop-drop, get_or-take, length-take-le}
 use lib.IntN.{ℤ}
 use lib.Dec.{T, ltb}
-use lib.Ieee.Fits.{and_l, and_r}
+use lib.Ieee.Fits.{and_l}
 use Rattle.bars.specs.Lists.{every}
 use Rattle.stores.specs.Code.StoreRows.{rising}
 use Rattle.machine.specs.Soundness.{rises}

@@ -1,5 +1,5 @@
 -- Document 01's fresh analyzer, with document 02's request two: questions 1, 2, 17 and 3, in this order, and the stand that it begins with. Definitions only.
-use Rattle.std.specs.Prelude.{ℕ, zero, suc, Bool, true, false, ◌&&◌, cond, List, [], length, replicate, leb, eqb}
+use Rattle.std.specs.Prelude.{ℕ, zero, suc, Bool, ◌&&◌, cond, length, replicate, leb, eqb}
 use Rattle.strokes.specs.declared.Rooms.{Rooms}
 use Rattle.strokes.specs.declared.Stand.{Stand}
 use Rattle.strokes.specs.Lent.{Stores}

@@ -1,5 +1,5 @@
 use Rattle.strokes.specs.Lent.{stores_of, stores_lent}
-use Rattle.sound.specs.FreshStand.{rooms_of, no_stand, fresh_failed}
+use Rattle.sound.specs.FreshStand.{rooms_of, no_stand}
 use Rattle.sound.proofs.FreshLaws.{failed-is, fresh_yes, fresh_no}
 use mathlib.Core.Path.{◌≡◌}
 use Rattle.sound.proofs.fresh_stand.fresh.Goals as goal

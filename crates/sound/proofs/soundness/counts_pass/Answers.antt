@@ -1,5 +1,4 @@
 use mathlib.Core.Path.{refl}
-use Prim.Native.Nat.{◌-◌}
 use Rattle.sound.proofs.SoundScans.{every-turn, every-end}
 use Rattle.sound.specs.Code.SoundStand.{small_count}
 use borrow.Author.Rules.{rules}

@@ -1,4 +1,4 @@
-use Prim.Native.Nat.{◌-◌, ◌+◌}
+use Prim.Native.Nat.{◌+◌}
 use mathlib.Core.Bool.{true}
 use Rattle.sound.proofs.SoundNames.{follow_start, follow_turn, follow_end}
 use borrow.Author.Rules.{rules}

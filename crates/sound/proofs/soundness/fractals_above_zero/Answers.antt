@@ -1,6 +1,5 @@
 use mathlib.Core.Path.{refl}
 use mathlib.Core.Bool.{false}
-use Prim.Native.Nat.{◌-◌}
 use Rattle.sound.proofs.SoundScans.{every-turn, every-end}
 use Rattle.sound.specs.Code.SoundStand.{bars_by}
 use mathlib.Core.List.{[]}

@@ -1,4 +1,3 @@
-use Prim.Native.Nat.{◌-◌}
 use Rattle.sound.proofs.SoundScans.{alternating-few, alternating-start, alternating-turn, alternating-end}
 use borrow.Author.Rules.{rules}
 use Rattle.sound.proofs.soundness.marks_alternate.Goals as goal

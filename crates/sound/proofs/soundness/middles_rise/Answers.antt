@@ -1,4 +1,3 @@
-use Prim.Native.Nat.{◌-◌}
 use Rattle.sound.specs.Code.SoundStand.{middle_times}
 use Rattle.sound.proofs.SoundScans.{rises-is, middle-few, middle-turn, middle-end}
 use borrow.Author.Rules.{rules}

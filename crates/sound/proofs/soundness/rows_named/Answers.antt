@@ -1,4 +1,3 @@
-use Prim.Native.Nat.{◌-◌}
 use mathlib.Core.Path.{refl}
 use Rattle.sound.proofs.SoundNames.{rows-turn, rows_end}
 use borrow.Author.Rules.{rules}

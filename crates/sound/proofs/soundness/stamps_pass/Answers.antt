@@ -1,7 +1,6 @@
 use mathlib.Core.Path.{refl}
 use mathlib.Core.Bool.{true}
 use mathlib.Core.List.{[]}
-use Prim.Native.Nat.{◌-◌}
 use Rattle.sound.proofs.SoundScans.{every_on, every_stop, every-end}
 use Rattle.sound.specs.Code.SoundStand.{stamps_pass}
 use borrow.Author.Tests.{not-true, not-false}

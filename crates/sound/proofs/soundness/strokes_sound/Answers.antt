@@ -10,7 +10,7 @@ pub slice_bounds-strokes_pass-end : goal.slice_bounds-strokes_pass-end
 slice_bounds-strokes_pass-end c = cut-count c.args.rt.now c.args.n c.requires.fact_1.1
 
 pub strokes_pass-requires : goal.strokes_pass-requires
-strokes_pass-requires c = 
+strokes_pass-requires c =
     record { fact_1 = (c.requires.fact_1.0, cut_small c.args.rt.now c.args.n 65536 c.requires.fact_1.1 c.requires.fact_1.2, c.requires.fact_1.3, c.requires.fact_1.4); fact_2 = c.requires.fact_2; fact_3 = c.requires.fact_3 }
 
 pub returns : goal.returns

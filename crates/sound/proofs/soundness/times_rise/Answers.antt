@@ -1,5 +1,4 @@
 use mathlib.Core.Bool.{true}
-use Prim.Native.Nat.{◌-◌}
 use Rattle.sound.proofs.SoundScans.{rises-is, rise-few, rise_on, rise_stop, rise-end}
 use borrow.Author.Tests.{not-true, not-false}
 use borrow.Author.Rules.{rules}
