@@ -1,5 +1,5 @@
 -- Questions 13 and 14 of document 01, which every report asks: what is named by a place, and whether the answer fits the output buffer. Definitions only.
-use Rattle.std.specs.Prelude.{ℕ, zero, suc, ◌+◌, Bool, true, false, List, [], ◌∷◌, length, take, drop, ltb, leb}
+use Rattle.std.specs.Prelude.{ℕ, zero, suc, ◌+◌, Bool, List, [], ◌∷◌, length, take, drop, ltb, leb}
 use Rattle.std.proofs.Math.Option.{Option, none, some}
 use Rattle.bars.specs.Bars.{Merged}
 use Rattle.machine.specs.Fractals.{Fractal, check_fxs}
