@@ -7,7 +7,7 @@ use Rattle.strokes.specs.Lent.{held}
 use Rattle.czsc_c.proofs.calls.update_packed.Goals as goal
 
 pub feed_sound-r-requires : goal.feed_sound-r-requires
-feed_sound-r-requires c = 
+feed_sound-r-requires c =
     let a = c.args in
     let m = held a.rt a.ri a.rp a.ut a.ui a.up a.uc a.ue a.st a.si a.sp a.sc a.se a.fs a.fp in
     record { fact_1 = subst (λ (z : Stand). IsSound z m) (sym c.unpack-stand.ensures) c.requires.fact_2; fact_2 = clear_none _ }
@@ -70,7 +70,7 @@ pub shape_of-fp : goal.shape_of-fp
 shape_of-fp c = c.fp-1.given
 
 pub returns : goal.returns
-returns c = 
+returns c =
     let a = c.args in
     let m = held a.rt a.ri a.rp a.ut a.ui a.up a.uc a.ue a.st a.si a.sp a.sc a.se a.fs a.fp in
     let u = c.unpack-stand in let f = c.feed_sound-r in fed_handed a.numbers.now a.counts.now a.events.now m u.result f.result u.ensures f.ensures c.hand_over.ensures

@@ -1,12 +1,11 @@
 use Rattle.sound.specs.Code.SoundStand.{raw_columns}
 use mathlib.Core.Path.{◌∙◌, sym}
-use borrow.Author.Tests.{not-true, not-false}
 use Rattle.sound.proofs.soundness.raw_columns_pass.Goals as goal
 
 pub returns-then-not-times_pass : goal.returns-then-not-times_pass
 unfolding raw_columns
-returns-then-not-times_pass c = rw (sym c.times_pass.ensures ∙ not-true _ c.if-not-times_pass.true-raw)
+returns-then-not-times_pass c = rw (sym c.times_pass.ensures ∙ c.if-not-times_pass.true)
 
 pub returns : goal.returns
 unfolding raw_columns
-returns c = rw (sym c.times_pass.ensures ∙ not-false _ c.if-not-times_pass.false-raw) c.raw_rows_pass.ensures
+returns c = rw (sym c.times_pass.ensures ∙ c.if-not-times_pass.false) c.raw_rows_pass.ensures
