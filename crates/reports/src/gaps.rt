@@ -77,7 +77,7 @@ pub fn check_gap_info(
 // ---- all pairs
 
 // Oldest first, into lent columns: which kind of gap, its edges and ratio, whether it was covered. Kinds 3 and 4 have no ratio
-// (bars, gapNumber). Question 14 asks whether each column has a place for each pair; where it has not, nothing is written.
+// (bars, gap_number). Question 14 asks whether each column has a place for each pair; where it has not, nothing is written.
 pub fn check_gaps(
     stand: Stand,
     rt: &[i64],

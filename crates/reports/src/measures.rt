@@ -107,7 +107,7 @@ fn volume(ps: &[[f64; 6]]) -> f64
 
 // ---- of the inner raw bars. They are read where they stand: each element of a merged bar is looked
 // up among the raw times, and nothing is copied. In contracts the raw bar of the time t is at the
-// place that placeOf gives, and its row of prices has open at 0 and close at 1.
+// place that place_of gives, and its row of prices has open at 0 and close at 1.
 
 pub fn shorter(a: usize, b: usize) -> usize
     ensures { result ≡ min a b }
