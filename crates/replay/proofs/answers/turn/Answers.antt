@@ -99,4 +99,4 @@ pub shape_of-fp : goal.shape_of-fp
 shape_of-fp c = refl
 
 pub returns : goal.returns
-returns c = c.?before.before.before.before.before.before.before.before.before.before.before.before.before.before.before.before.requires
+returns c = c.requires
