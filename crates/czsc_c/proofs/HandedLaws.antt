@@ -3,9 +3,9 @@ use Prim.Native.Nat.{ℕ, zero, suc, ◌≤◌, ◌<◌}
 use native.Mathlib.Omega.{arith}
 use mathlib.Core.Path.{◌≡◌, refl, ap, sym, ◌∙◌, subst}
 use mathlib.Core.Bool.{Bool, true, false, ◌&&◌, false≢true}
-use mathlib.Core.List.{List, [], ◌∷◌}
+use mathlib.Core.List.{List}
 use lib.Dec.{leb}
-use lib.ListN.{length, set}
+use lib.ListN.{length}
 use borrow.Author.Tests.{le-leb, lt-leb, leb-true}
 use Rattle.bars.specs.declared.Bar.{Bar}
 use Rattle.machine.specs.FeedQuestions.{or_else}
@@ -20,9 +20,7 @@ use Rattle.question4.specs.Question4.{question4}
 use Rattle.question4.proofs.Question4Passed.{is-sound}
 use Rattle.feed.specs.declared.feed.FeedAnswer.{FeedAnswer}
 use Rattle.feed.specs.PortCalls.{FeedIs}
-use Rattle.batch.specs.declared.batch.BatchAnswer.{BatchAnswer}
-use Rattle.batch.specs.BatchCalls.{BatchIs}
-use Rattle.czsc_c.specs.Handed.{StandHanded, stand_handed, fresh_handed_if, fresh_handed, failed_before, HandedOver, FedHanded, UpdateHanded, failed_first_if, failed_first, SumsHanded, BatchHanded}
+use Rattle.czsc_c.specs.Handed.{stand_handed, fresh_handed_if, fresh_handed, failed_before, HandedOver, FedHanded, UpdateHanded, failed_first_if, failed_first, SumsHanded, BatchHanded}
 
 -- ---- a fresh analyzer
 

@@ -1,13 +1,12 @@
 -- Document 01's marked instances, computed: one table over the definitions of all four layers. Pairs are high/low.
-use Rattle.std.specs.Prelude.{ℕ, ◌≡◌, refl, Bool, true, false, List, [], ◌∷◌, ◌++◌, map, length, ℤ, pos, negsuc, Float}
-use Rattle.std.proofs.Math.Option.{Option, none, some}
+use Rattle.std.specs.Prelude.{ℕ, ◌≡◌, refl, true, false, List, [], ◌∷◌, ◌++◌, map, length, ℤ, pos, negsuc, Float}
+use Rattle.std.proofs.Math.Option.{none}
 use Rattle.std.specs.Float.{fin, binary64}
 use Rattle.std.specs.Float.Ieee.{round, neg, of_int}
 use Rattle.arith.specs.Rounding.{round_to}
 use Rattle.bars.specs.declared.Bar.{Bar}
 use Rattle.bars.specs.Bars.{Merged, own, row_of}
 use Rattle.bars.specs.Merging.{merge_all}
-use Rattle.bars.specs.declared.gaps.Gap.{Gap}
 use Rattle.bars.specs.declared.gaps.Gap.TheVariants as Gaps
 use Rattle.bars.specs.Gaps.{gaps_of}
 use Rattle.machine.specs.declared.Mark.{Mark}

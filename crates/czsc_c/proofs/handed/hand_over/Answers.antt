@@ -1,6 +1,4 @@
 use mathlib.Core.Path.{refl}
-use Rattle.czsc_c.proofs.handed.put_events.Reads as put-events-reads
-use Rattle.strokes.proofs.pack.Reads as pack-reads
 use Rattle.czsc_c.proofs.handed.hand_over.Goals as goal
 
 pub returns-then-failed-ne0 : goal.returns-then-failed-ne0

@@ -2,7 +2,6 @@ use mathlib.Core.Path.{ap}
 use lib.ListN.{set}
 use mathlib.Core.List.{[], ◌∷◌}
 use Prim.Native.Nat.{ℕ}
-use Rattle.czsc_c.proofs.handed.widened.Reads as widened-reads
 use Rattle.czsc_c.proofs.handed.put_sums.Goals as goal
 
 pub returns : goal.returns
