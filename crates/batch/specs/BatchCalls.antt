@@ -1,6 +1,6 @@
 -- The batch call: a list of bars fed to a fresh analyzer, one by one, up to the first that is refused. It is a list of feed calls that were all accepted, and
 -- its answers are theirs, added up. Definitions only.
-use Rattle.std.specs.Prelude.{ℕ, ◌-◌, ◌<◌, ◌≡◌, List, ◌∷◌, length, take, drop}
+use Rattle.std.specs.Prelude.{ℕ, ◌<◌, ◌≡◌, List, ◌∷◌, length, take, drop}
 use Rattle.bars.specs.declared.Bar.{Bar}
 use Rattle.machine.specs.Feed.{Events}
 use Rattle.strokes.specs.declared.Stand.{Stand}

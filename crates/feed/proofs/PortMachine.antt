@@ -3,7 +3,6 @@
 use Prim.Native.Nat.{ℕ, zero, suc}
 use native.Mathlib.Omega.{arith}
 use mathlib.Core.Path.{◌≡◌, refl, sym, ◌∙◌, subst}
-use mathlib.Core.Bool.{true, ◌&&◌}
 use mathlib.Core.List.{List, []}
 use lib.Dec.{T}
 use lib.Ieee.Fits.{and_l}
@@ -12,7 +11,6 @@ use Rattle.machine.specs.Stand.{Settings, fresh}
 use Rattle.machine.specs.Soundness.{sound}
 use Rattle.machine.specs.Calls.{none_yet, run, start, calls, accepted}
 use Rattle.strokes.specs.StateRead.{settings_of, state_of, sized, bare_state}
-use Rattle.sound.specs.StandSound.{stores_sound}
 use Rattle.sound.proofs.FreshLaws.{fresh-state, fresh-sound, fresh_unsound}
 use Rattle.question4.specs.Question4.{question4}
 use Rattle.feed.specs.PortCalls.{accepted_of, FreshCalls, refused_with, begun}

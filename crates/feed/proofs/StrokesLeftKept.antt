@@ -1,6 +1,6 @@
 -- Over every list of the plain machine's calls, the kept strokes are what is left of those made when those broken and those shed are taken away, and there are as
 -- many of each as the answers count. Assumes nothing.
-use Prim.Native.Nat.{ℕ, zero, suc, ◌+◌, ◌<◌}
+use Prim.Native.Nat.{ℕ, zero, suc, ◌<◌}
 use native.Mathlib.Omega.{arith}
 use mathlib.Core.Path.{◌≡◌, refl, ap, sym, ◌∙◌}
 use mathlib.Core.Bool.{Bool, true, false}

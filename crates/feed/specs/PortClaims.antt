@@ -1,6 +1,6 @@
 -- Demand 3 of the port: the claims of Claims, on every list of the port's feed calls from a fresh analyzer, refused ones included. The kept strokes are those that
 -- are read off the stand and the stores that the last call leaves; the last four claims are of what get_zs_seq and create_fake_bis then answer. The proof is `port_demand3` of proofs/PortDemand3.
-use Rattle.std.specs.Prelude.{ℕ, ◌+◌, ◌<◌, ◌%◌, ◌≡◌, true, false, List, [], map, length, T}
+use Rattle.std.specs.Prelude.{ℕ, ◌+◌, ◌<◌, ◌%◌, ◌≡◌, true, List, [], map, length, T}
 use Rattle.std.proofs.Math.Option.{none, some}
 use Rattle.bars.specs.declared.Bar.{Bar}
 use Rattle.bars.specs.Lists.{All, join, last, every}

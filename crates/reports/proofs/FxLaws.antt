@@ -1,13 +1,12 @@
 -- Laws of the list of fractals, one step after the other. Assumes nothing.
-use Prim.Native.Nat.{ℕ, zero, suc, ◌+◌, ◌-◌, ◌≤◌, ◌<◌}
-use native.Mathlib.Numerals.{add-one}
+use Prim.Native.Nat.{ℕ, zero, suc, ◌+◌, ◌≤◌, ◌<◌}
 use native.Mathlib.Omega.{arith}
 use mathlib.Core.Path.{◌≡◌, refl, ap, sym, ◌∙◌, subst}
 use mathlib.Core.Bool.{Bool, true, false}
-use mathlib.Core.List.{List, [], ◌∷◌, ◌++◌, map, foldl, append-nil, append_assoc}
-use mathlib.Core.Option.{Option, none, some}
+use mathlib.Core.List.{List, [], ◌∷◌, ◌++◌}
+use mathlib.Core.Option.{Option, some}
 use lib.ListN.{length, take, drop, get_or, set, length-take, length-drop, length-set, length-append, drop_of_length-le}
-use lib.Seq.{length-take-le, drop-cons, get_or-take, get_or-drop, take-add, take_all, take-suc-set, drop-set-lt, append_snoc, drop-drop}
+use lib.Seq.{length-take-le, drop-cons, get_or-take, get_or-drop, take-add, take_all, drop-drop}
 use lib.IntN.{ℤ, pos}
 use lib.Signed.{lt_z}
 use lib.Ieee.{Float, nan}

@@ -1,15 +1,13 @@
 -- What the steps list is get_fx_list: how many fractals, and the output that they are written to. Assumes nothing.
-use Prim.Native.Nat.{ℕ, zero, suc, ◌+◌, ◌-◌, ◌≤◌, ◌<◌}
+use Prim.Native.Nat.{ℕ, ◌+◌}
 use native.Mathlib.Numerals.{add-one}
 use native.Mathlib.Omega.{arith}
-use mathlib.Core.Path.{◌≡◌, refl, ap, sym, ◌∙◌, subst}
+use mathlib.Core.Path.{◌≡◌, refl, ap}
 use mathlib.Core.Bool.{Bool, true, false}
-use mathlib.Core.List.{List, [], ◌∷◌, ◌++◌, map, append-nil}
-use mathlib.Core.Option.{Option, none, some}
-use lib.ListN.{length, take, drop, get_or, set, length-map, take-append-drop}
-use lib.Seq.{take-suc-set, drop-set-lt, append_snoc}
-use lib.IntN.{ℤ, pos}
-use lib.Ieee.{Float}
+use mathlib.Core.List.{List, [], ◌∷◌, ◌++◌}
+use mathlib.Core.Option.{Option, some}
+use lib.ListN.{length, take, drop}
+use lib.IntN.{ℤ}
 use Rattle.bars.specs.Bars.{Merged}
 use Rattle.bars.specs.Lists.{join}
 use Rattle.machine.specs.Fractals.{Fractal, time_of}

@@ -23,7 +23,6 @@ use Rattle.question4.specs.Question4.{question4}
 use Rattle.question4.proofs.Question4Passed.{is-sound}
 use Rattle.sound.proofs.SoundFacts.{sound_fit}
 use Rattle.reports.specs.declared.gaps.GapInfo.{GapInfo}
-use Rattle.reports.specs.declared.gaps.GapsAnswer.{GapsAnswer}
 use Rattle.reports.specs.GapAnswers.{kept_prices, no_gap, pair_given, pair_by, gap_report, ListedAt, GapsAnswered, gaps_answered, gaps_fit, gaps_by, gaps_report}
 
 -- the rows of the kept raw bars are there

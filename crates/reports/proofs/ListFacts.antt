@@ -1,12 +1,11 @@
 -- What a sound stand gives the list calls. Assumes nothing.
-use Prim.Native.Nat.{ℕ, zero, suc, ◌+◌, ◌≤◌, ◌<◌}
+use Prim.Native.Nat.{ℕ, zero, suc, ◌≤◌}
 use native.Mathlib.Omega.{arith}
 use mathlib.Core.Path.{◌≡◌, refl, ap, sym, ◌∙◌, subst}
 use mathlib.Core.Bool.{Bool, true, false}
-use mathlib.Core.List.{List, [], ◌∷◌, map}
-use mathlib.Core.Option.{Option, none, some}
+use mathlib.Core.List.{map}
 use lib.ListN.{length, take, get_or}
-use lib.Ieee.{Float, nan}
+use lib.Ieee.{nan}
 use Rattle.stores.specs.Stores.{merged_bars, with_first, bar_of}
 use Rattle.strokes.specs.declared.Stand.{Stand}
 use Rattle.strokes.specs.declared.strokes_store.LastStroke.{LastStroke}

@@ -1,15 +1,15 @@
 -- Laws of the finished strokes and of the bars beyond the last stroke. Assumes nothing.
-use Prim.Native.Nat.{ℕ, zero, suc, ◌+◌, ◌-◌, ◌≤◌, ◌<◌}
+use Prim.Native.Nat.{ℕ, suc, ◌+◌, ◌-◌, ◌≤◌, ◌<◌}
 use native.Mathlib.Numerals.{add-one}
 use native.Mathlib.Omega.{arith}
-use mathlib.Core.Path.{◌≡◌, refl, ap, sym, ◌∙◌, subst}
+use mathlib.Core.Path.{◌≡◌, refl, ap, sym, ◌∙◌}
 use mathlib.Core.Bool.{Bool, true, false, cond}
 use mathlib.Core.List.{List, [], ◌∷◌, map}
 use mathlib.Core.Option.{Option, none, some}
-use lib.ListN.{length, take, drop, get_or, length-take, length-map, get_or-map, drop_of_length-le}
-use lib.Seq.{take_all, take-length, length-take-le, drop-cons, get_or-take}
+use lib.ListN.{length, take, drop, get_or, length-take, drop_of_length-le}
+use lib.Seq.{take-length, length-take-le, drop-cons, get_or-take}
 use lib.Dec.{ltb}
-use lib.Ieee.{Float, nan, inf, lt}
+use lib.Ieee.{Float, nan, lt}
 use borrow.Author.Tests.{lt-ltb, le-ltb}
 use Rattle.bars.specs.Bars.{Merged}
 use Rattle.bars.specs.Lists.{fold_left, last}

@@ -1,15 +1,14 @@
 -- What the proofs of src/measures.rt cite: change by its test, volumes and folds over elements in turn. Assumes nothing.
 use Prim.Native.Nat.{ℕ, zero, suc, ◌+◌, ◌-◌, ◌≤◌, ◌<◌, min}
 use native.Mathlib.Omega.{arith}
-use native.Mathlib.Numerals.{add-one}
 use mathlib.Core.Path.{◌≡◌, refl, ap, sym, ◌∙◌, subst}
-use mathlib.Core.Bool.{Bool, true, false, not, ◌&&◌}
+use mathlib.Core.Bool.{Bool, true, false, ◌&&◌}
 use mathlib.Core.List.{List, [], ◌∷◌, ◌++◌, map, foldl}
 use lib.ListN.{length, take, drop, get_or, length-take, length-drop, drop_of_length-le}
-use lib.Seq.{drop-cons, drop-drop, get_or-take, length-take-le, take-nil}
+use lib.Seq.{drop-cons, drop-drop, get_or-take, take-nil}
 use lib.IntN.{ℤ, pos}
 use lib.Dec.{T, ltb, ltb→lt}
-use lib.Ieee.{Float, fin, nan, fits, binary64, add, sub, div, eq}
+use lib.Ieee.{Float, nan, fits, binary64, sub, div, eq}
 use lib.Ieee.Fits.{and_l, and_r, nan-fits, and_i}
 use Rattle.arith.specs.Sums.{sum_of, plus, zero_f, acceleration_of, snr_of, slope_of}
 use Rattle.arith.specs.Code.Accumulators.{mean_more, fit_more, snr_more, slope_more, mean_start, fit_start, snr_start, slope_start, fit_end, snr_end, slope_end}

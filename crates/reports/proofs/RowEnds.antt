@@ -1,16 +1,12 @@
 -- What the fractal in a row of a stroke shows, and that a stroke's start and end stand in their rows. Assumes nothing.
-use Prim.Native.Nat.{ℕ, zero, suc, ◌+◌, ◌-◌, ◌*◌, ◌/◌, ◌≤◌, ◌<◌}
+use Prim.Native.Nat.{ℕ, ◌+◌, ◌-◌, ◌*◌, ◌/◌, ◌<◌}
 use native.Mathlib.Omega.{arith}
-use mathlib.Core.Path.{◌≡◌, refl, ap, sym, ◌∙◌, subst}
-use mathlib.Core.Bool.{Bool, true, false, ◌&&◌}
-use mathlib.Core.List.{List, [], ◌∷◌, map}
-use mathlib.Core.Option.{Option, none, some}
-use lib.Dec.{T, leb, leb→le}
-use lib.ListN.{length, take, drop, get_or, length-take, length-drop}
-use lib.Seq.{take-take, drop-drop, get_or-take, get_or-drop, length-take-le}
+use mathlib.Core.Path.{◌≡◌, refl, ap, sym, ◌∙◌}
+use mathlib.Core.List.{List, []}
+use lib.ListN.{length, take, drop, get_or}
+use lib.Seq.{get_or-take, get_or-drop}
 use lib.IntN.{ℤ, pos}
 use lib.Ieee.{Float, nan}
-use lib.Ieee.Fits.{and_l, and_r}
 use Rattle.bars.specs.declared.Bar.{Bar}
 use Rattle.machine.specs.declared.Mark.{Mark}
 use Rattle.stores.specs.Stores.{bar_of}

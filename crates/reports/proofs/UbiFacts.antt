@@ -1,13 +1,12 @@
 -- What a sound stand gives the unfinished summary. Assumes nothing.
-use Prim.Native.Nat.{ℕ, zero, suc, ◌+◌, ◌≤◌, ◌<◌}
+use Prim.Native.Nat.{◌+◌, ◌≤◌, ◌<◌}
 use native.Mathlib.Omega.{arith}
-use mathlib.Core.Path.{◌≡◌, refl, ap, sym, ◌∙◌, subst}
+use mathlib.Core.Path.{◌≡◌, refl, ap, sym, ◌∙◌}
 use mathlib.Core.Bool.{Bool, true, false}
-use mathlib.Core.List.{List, [], ◌∷◌, map, foldl}
-use mathlib.Core.Option.{Option, none, some}
+use mathlib.Core.List.{map, foldl}
+use mathlib.Core.Option.{some}
 use lib.ListN.{length, take, drop}
 use lib.Seq.{length-take-le}
-use lib.IntN.{ℤ}
 use Rattle.bars.specs.Lists.{join, last}
 use Rattle.bars.specs.Merging.{at_times}
 use Rattle.stores.specs.Stores.{raw_part, raw_bars, merged_bars, zip_with}

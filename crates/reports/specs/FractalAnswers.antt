@@ -1,5 +1,5 @@
 -- The three answers of a fractal, as fx.rs has them: strength, volume, and whether its three bars overlap. Definitions only.
-use Rattle.std.specs.Prelude.{ℕ, ◌+◌, Bool, true, false, cond, List, [], ◌∷◌, ◌≡◌, T, Float}
+use Rattle.std.specs.Prelude.{ℕ, ◌+◌, Bool, true, false, cond, [], ◌∷◌, ◌≡◌, T, Float}
 use Rattle.std.specs.Float.Ieee.{lt, le}
 use Prim.Native.Char.{Char}
 use Rattle.arith.specs.Sums.{sum_of}

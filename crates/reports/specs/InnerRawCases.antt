@@ -1,5 +1,5 @@
 -- Instances of listed bars, computed: two bars into columns of three places, and into columns of which one has a place too few.
-use Rattle.std.specs.Prelude.{ℕ, ◌≡◌, refl, List, [], ◌∷◌, ℤ, pos, Float}
+use Rattle.std.specs.Prelude.{ℕ, ◌≡◌, refl, List, [], ◌∷◌, pos, Float}
 use Rattle.std.specs.Float.{binary64}
 use Rattle.std.specs.Float.Ieee.{of_int}
 use Rattle.bars.specs.declared.Bar.{Bar}

@@ -1,5 +1,5 @@
 -- What the list calls answer of a stand and its lent stores: get_finished_bis and last_bi_extend. Definitions only.
-use Rattle.std.specs.Prelude.{◌-◌, Bool, true, false, length}
+use Rattle.std.specs.Prelude.{Bool, true, false, length}
 use Rattle.machine.specs.Stand.{State}
 use Rattle.strokes.specs.declared.Stand.{Stand}
 use Rattle.strokes.specs.StateRead.{state_of}

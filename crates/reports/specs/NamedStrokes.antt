@@ -1,5 +1,5 @@
 -- A kept stroke that is named by its place, oldest 0: where its rows stand in the stroke store, and what is answered of it. Definitions only.
-use Rattle.std.specs.Prelude.{ℕ, ◌-◌, Bool, true, false, List, pos, length}
+use Rattle.std.specs.Prelude.{ℕ, Bool, true, false, List, pos}
 use Rattle.std.proofs.Math.Option.{Option, none, some}
 use Rattle.std.specs.Float.{fin}
 use Rattle.bars.specs.declared.Bar.{Bar}

@@ -1,6 +1,6 @@
 -- Instances of the reports, computed: fractal answers, the fractal list, finished strokes, the unfinished summary. (Longer runs are in the crate zones.)
-use Rattle.std.specs.Prelude.{ℕ, ◌≡◌, refl, Bool, true, false, List, [], ◌∷◌, map, length, ℤ, pos, Float}
-use Rattle.std.proofs.Math.Option.{Option, none, some}
+use Rattle.std.specs.Prelude.{ℕ, ◌≡◌, refl, true, false, [], ◌∷◌, map, pos}
+use Rattle.std.proofs.Math.Option.{none}
 use Rattle.std.specs.Float.{binary64}
 use Rattle.std.specs.Float.Ieee.{of_int}
 use Rattle.bars.specs.declared.Bar.{Bar}

@@ -1,7 +1,7 @@
 -- Demand 3, for every list of calls: the claims of specs/Claims.
 -- Assumes nothing.
 use mathlib.Core.Path.{sym, subst}
-use mathlib.Core.List.{[], map}
+use mathlib.Core.List.{map}
 use mathlib.Core.Option.{none}
 use Rattle.machine.specs.Strokes.{Stroke}
 use Rattle.machine.specs.Calls.{calls}

@@ -3,10 +3,8 @@
 use Prim.Native.Nat.{ℕ, zero, suc, ◌+◌, ◌-◌, ◌*◌, ◌/◌, ◌≤◌, ◌<◌}
 use native.Mathlib.Omega.{arith}
 use mathlib.Core.Path.{◌≡◌, refl, ap, sym, ◌∙◌}
-use mathlib.Core.List.{List, [], ◌∷◌, ◌++◌, map}
-use lib.ListN.{length, take, drop, get_or, set, length-set}
-use lib.IntN.{ℤ}
-use lib.Ieee.{Float}
+use mathlib.Core.List.{List, [], ◌∷◌, map}
+use lib.ListN.{length, take, get_or, set, length-set}
 use Rattle.machine.specs.Fractals.{Fractal}
 use Rattle.machine.specs.declared.Mark.{Mark}
 use Rattle.check_bi.specs.declared.check_fx.Candle.{Candle}

@@ -3,7 +3,7 @@
 use Prim.Native.Nat.{ℕ, suc, ◌*◌, ◌/◌, ◌-◌}
 use native.Mathlib.Omega.{arith}
 use mathlib.Core.Path.{◌≡◌, refl, ap, ◌∙◌}
-use mathlib.Core.List.{List, [], ◌∷◌, map}
+use mathlib.Core.List.{List, [], ◌∷◌}
 use lib.ListN.{length, length-map}
 use Rattle.bars.specs.Bars.{Merged}
 use Rattle.machine.specs.declared.Mark.{Mark}

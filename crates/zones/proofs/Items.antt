@@ -1,11 +1,11 @@
 -- Lists of items that are read one after the other, and columns that are written so, from place 0 on.
 -- Assumes nothing.
-use Prim.Native.Nat.{ℕ, zero, suc, ◌+◌, ◌-◌, ◌≤◌, ◌<◌}
+use Prim.Native.Nat.{ℕ, zero, suc, ◌+◌, ◌≤◌, ◌<◌}
 use native.Mathlib.Omega.{arith}
 use native.Mathlib.Nat.{zero-add}
-use mathlib.Core.Path.{◌≡◌, refl, ap, sym, ◌∙◌, subst}
+use mathlib.Core.Path.{◌≡◌, refl, ap, sym, ◌∙◌}
 use mathlib.Core.List.{List, [], ◌∷◌, ◌++◌, map, map-append}
-use lib.ListN.{length, take, drop, get_or, set, length-append, length-map}
+use lib.ListN.{length, drop, get_or, set, length-append, length-map}
 use lib.Seq.{drop-cons, append_snoc, set-append_seam}
 use Rattle.strokes.specs.FractalRows.{pasted}
 use Rattle.strokes.proofs.StoredFractals.{length-pasted}

@@ -4,7 +4,7 @@ use Prim.Native.Nat.{ℕ, zero, suc, ◌+◌, ◌-◌, ◌≤◌, ◌<◌}
 use native.Mathlib.Omega.{arith}
 use mathlib.Core.Path.{◌≡◌, refl, ap, sym, ◌∙◌, subst}
 use mathlib.Core.Bool.{Bool, true, false, ◌&&◌}
-use mathlib.Core.List.{List, [], ◌∷◌, map, foldl}
+use mathlib.Core.List.{List, [], ◌∷◌, foldl}
 use lib.ListN.{length, take, drop, get_or, length-map}
 use lib.Seq.{get_or-take, drop-cons, length-take-le}
 use mir.Syntax.{w64}

@@ -1,14 +1,14 @@
 -- Runs of strokes that are walked stroke by stroke off the rows.
 -- Assumes nothing.
-use Prim.Native.Nat.{ℕ, zero, suc, ◌+◌, ◌-◌, ◌*◌, ◌/◌, ◌≤◌, ◌<◌}
+use Prim.Native.Nat.{ℕ, ◌+◌, ◌-◌, ◌*◌, ◌/◌, ◌≤◌, ◌<◌}
 use native.Mathlib.Omega.{arith}
 use mathlib.Core.Path.{◌≡◌, ap, sym, ◌∙◌, subst}
-use mathlib.Core.Bool.{Bool, false, not, ◌&&◌}
+use mathlib.Core.Bool.{Bool, false, ◌&&◌}
 use native.Mathlib.Numerals.{add-one}
 use mathlib.Core.List.{List, [], ◌∷◌, ◌++◌, foldl}
 use lib.ListN.{length, take, get_or, set}
 use lib.Seq.{take-suc-set}
-use lib.Dec.{leb, leb→le, nleb→lt, le→leb, not_T}
+use lib.Dec.{leb}
 use Rattle.strokes.specs.declared.Stand.{Stand}
 use Rattle.machine.specs.declared.Mark.{Mark}
 use Rattle.check_bi.specs.declared.check_fx.Candle.{Candle}

@@ -2,18 +2,16 @@
 -- Assumes nothing.
 use Prim.Native.Nat.{ℕ, zero, suc, ◌+◌, ◌-◌, ◌*◌, ◌/◌, ◌≤◌, ◌<◌}
 use native.Mathlib.Omega.{arith}
-use native.Mathlib.Numerals.{add-one}
-use native.Mathlib.Nat.{zero-add}
 use mathlib.Core.Path.{◌≡◌, refl, ap, sym, ◌∙◌}
-use mathlib.Core.Bool.{true, false, ◌&&◌}
-use mathlib.Core.List.{List, [], ◌∷◌, ◌++◌, map, foldl}
-use mathlib.Core.Option.{Option, none, some, some-injective}
-use lib.ListN.{length, take, drop, get_or, length-take, length-drop}
+use mathlib.Core.Bool.{◌&&◌}
+use mathlib.Core.List.{List, [], ◌∷◌, map, foldl}
+use mathlib.Core.Option.{none, some, some-injective}
+use lib.ListN.{length, take, drop, get_or, length-drop}
 use lib.Seq.{take-take, drop-cons, get_or-take, get_or-drop, length-take-le}
 use lib.IntN.{ℤ, pos}
 use lib.Ieee.{Float, nan}
 use lib.Ieee.Fits.{and_l, and_r}
-use lib.Dec.{T, leb, leb→le}
+use lib.Dec.{T, leb}
 use Rattle.bars.specs.Bars.{Merged}
 use Rattle.bars.specs.Lists.{some_of}
 use Rattle.stores.specs.Stores.{MergedStore, bar_of, merged_bars}

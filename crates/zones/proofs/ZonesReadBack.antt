@@ -1,14 +1,11 @@
 -- The rows of zones and of their strokes, read back, are the zones.
 -- Assumes nothing.
-use Prim.Native.Nat.{ℕ, zero, suc, ◌+◌}
-use native.Mathlib.Nat.{zero-add}
+use Prim.Native.Nat.{ℕ, ◌+◌}
 use mathlib.Core.Path.{◌≡◌, refl, ap, sym, ◌∙◌}
 use mathlib.Core.Bool.{Bool, true, false}
 use mathlib.Core.List.{List, [], ◌∷◌, ◌++◌, map}
-use lib.ListN.{length, take, drop, get_or, length-map}
+use lib.ListN.{length, take, drop, length-map}
 use lib.Seq.{take_at, take-append_seam, drop-append_seam}
-use lib.IntN.{ℤ}
-use lib.Ieee.{Float}
 use Rattle.bars.specs.Lists.{join}
 use Rattle.stores.specs.Stores.{zip_with}
 use Rattle.machine.specs.declared.Direction.{Direction}

@@ -1,5 +1,5 @@
 -- Runs of strokes that go up or down as a whole: is_bis_up and is_bis_down, over the summaries of the run. Definitions only.
-use Rattle.std.specs.Prelude.{ℕ, ◌%◌, Bool, true, false, ◌&&◌, List, [], ◌∷◌, length, leb, eqb, Float}
+use Rattle.std.specs.Prelude.{◌%◌, Bool, true, false, ◌&&◌, List, [], ◌∷◌, length, leb, eqb}
 use Rattle.std.specs.Int.Signed.{lt_z}
 use Rattle.std.specs.Float.Ieee.{eq}
 use Rattle.machine.specs.declared.Direction.{Direction}

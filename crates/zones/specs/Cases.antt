@@ -1,6 +1,6 @@
 -- Instances of zones and of runs of strokes, computed, with the Rust's answers, and rows read back. Fed bars never gave a zone that is not valid, so these are given directly.
-use Rattle.std.specs.Prelude.{ℕ, ◌≡◌, refl, Bool, true, false, List, [], ◌∷◌, ◌++◌, map, length, ℤ, pos, negsuc, Float}
-use Rattle.std.specs.Float.{fin, binary64}
+use Rattle.std.specs.Prelude.{ℕ, ◌≡◌, refl, Bool, true, false, List, [], ◌∷◌, ◌++◌, map, length, ℤ, pos, Float}
+use Rattle.std.specs.Float.{binary64}
 use Rattle.std.specs.Float.Ieee.{of_int}
 use Rattle.machine.specs.declared.Direction.{Direction}
 use Rattle.machine.specs.declared.Direction.TheVariants.{Up, Down}

@@ -1,5 +1,5 @@
 -- Document 01's fake strokes: create_fake_bis. d is the number of places for power (document 02, request two). Definitions only.
-use Rattle.std.specs.Prelude.{ℕ, ◌%◌, ◌≡◌, Bool, true, false, not, List, [], ◌∷◌, map, length, T, Float}
+use Rattle.std.specs.Prelude.{ℕ, ◌%◌, ◌≡◌, not, List, [], ◌∷◌, map, length, T, Float}
 use Rattle.std.specs.Float.{binary64}
 use Rattle.std.specs.Float.Ieee.{sub}
 use Rattle.arith.specs.Rounding.{round_to}

@@ -1,5 +1,5 @@
 -- Document 01's zones: get_zs_seq, and ZS::new and is_valid of the source. Definitions only.
-use Rattle.std.specs.Prelude.{ℕ, Bool, true, false, not, ◌&&◌, ◌||◌, List, [], ◌∷◌, ◌++◌, map, take, ℤ, pos, negsuc, Float}
+use Rattle.std.specs.Prelude.{Bool, true, false, not, ◌&&◌, ◌||◌, List, [], ◌∷◌, ◌++◌, map, take, ℤ, pos, negsuc, Float}
 use Rattle.std.specs.Float.{inf, fin, binary64}
 use Rattle.std.specs.Float.Ieee.{lt, le, add, sub, mul}
 use Rattle.bars.specs.Lists.{every}

@@ -1,5 +1,5 @@
 -- get_fx_list fractal by fractal: what has been listed, and the lent output that the listed ones are written to. Definitions only.
-use Rattle.std.specs.Prelude.{ℕ, zero, suc, ◌+◌, ◌≤◌, ◌<◌, Bool, true, false, ◌≡◌, length, take, drop, get_or, set, ℤ, pos, Float}
+use Rattle.std.specs.Prelude.{ℕ, zero, suc, ◌+◌, ◌<◌, Bool, true, false, ◌≡◌, length, take, drop, get_or, set, ℤ, pos, Float}
 use mathlib.Core.List.{List, [], ◌∷◌, ◌++◌, foldl}
 use Rattle.std.proofs.Math.Option.{Option, none, some}
 use Rattle.machine.specs.Fractals.{Fractal}

@@ -6,7 +6,6 @@ use Rattle.stores.specs.Code.StoreRows.{RoomRaw, bar_at, set_bar, rising, place_
 use Rattle.sound.specs.Code.SoundStand.{named_rows}
 use Rattle.named.specs.declared.stroke_rows.StrokeRows.{StrokeRows}
 use Rattle.named.specs.Code.NamedRows.{RowsStand, inner_rows}
-use Rattle.reports.specs.InnerRawBars.{listed}
 
 -- the first n bars of a store can be looked up by their times
 pub record CanFind (s : RawStore) (n : ℕ) : Type 0 where

@@ -1,5 +1,5 @@
 -- The columns of which a stroke's measures are made, cut to its rows. Definitions only.
-use Rattle.std.specs.Prelude.{ℕ, ◌-◌, ◌≤◌, List, [], ◌≡◌, T, ℤ, length, take, get_or, Float}
+use Rattle.std.specs.Prelude.{ℕ, ◌≤◌, List, [], ◌≡◌, T, ℤ, length, take, get_or, Float}
 use Rattle.bars.specs.declared.Bar.{Bar}
 use Rattle.stores.specs.Code.StoreRows.{rising}
 use Rattle.machine.specs.Strokes.{Stroke}

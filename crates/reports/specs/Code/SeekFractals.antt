@@ -1,6 +1,6 @@
 -- The search for the fractal at a place among those that check_fxs takes, window by window. Definitions only.
-use Rattle.std.specs.Prelude.{ℕ, zero, suc, Bool, true, false, List, []}
-use Rattle.std.proofs.Math.Option.{Option, none, some, map}
+use Rattle.std.specs.Prelude.{ℕ, zero, suc, Bool, true, false, []}
+use Rattle.std.proofs.Math.Option.{Option, none, some}
 use Rattle.bars.specs.declared.Bar.{Bar}
 use Rattle.machine.specs.declared.Mark.{Mark}
 use Rattle.machine.specs.declared.Mark.TheVariants.{D, G}

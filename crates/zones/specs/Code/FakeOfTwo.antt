@@ -1,6 +1,6 @@
 -- Fake strokes from what is read of their fractals, and how many there are. That these are create_fake_bis of specs/FakeStrokes is `fake_of-two` and
 -- `fake-count` of proofs/FakesOfTwo. Definitions only.
-use Rattle.std.specs.Prelude.{ℕ, ◌*◌, ◌/◌, ◌-◌, Float}
+use Rattle.std.specs.Prelude.{ℕ, ◌*◌, ◌/◌, ◌-◌}
 use Rattle.std.specs.Float.{binary64}
 use Rattle.std.specs.Float.Ieee.{sub}
 use Rattle.arith.specs.Rounding.{round_to}

@@ -1,6 +1,6 @@
 -- A run of strokes under construction: what is_bis_up and is_bis_down read of it, kept up stroke by stroke. That the answers are those over the whole
 -- list is `up-grown` and `down-grown` of proofs/RunFolds. Definitions only.
-use Rattle.std.specs.Prelude.{Bool, true, false, not, ◌&&◌, ◌||◌, Float}
+use Rattle.std.specs.Prelude.{Bool, true, false, not, ◌&&◌, ◌||◌}
 use mathlib.Core.List.{List, foldl}
 use Rattle.std.specs.Int.Signed.{lt_z}
 use Rattle.std.specs.Float.{inf}

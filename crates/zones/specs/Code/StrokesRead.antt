@@ -1,7 +1,6 @@
 -- Kept strokes as they are read off the stand's counts and the rows of the fractal store, by place: what zones, runs and fake strokes ask of them. That these are
 -- the strokes of the stand's state is proofs/StrokesRead. Definitions only.
-use Rattle.std.specs.Prelude.{ℕ, zero, suc, ◌+◌, ◌-◌, ◌*◌, ◌/◌, ◌≤◌, ◌<◌, List, [], ◌∷◌, length, take, get_or, ℤ, pos, Float}
-use Rattle.std.specs.Float.{nan}
+use Rattle.std.specs.Prelude.{ℕ, zero, suc, ◌+◌, ◌-◌, ◌*◌, ◌/◌, ◌≤◌, ◌<◌, List, [], ◌∷◌, length, take, get_or}
 use Rattle.arith.specs.Order.{max_of, min_of}
 use Rattle.machine.specs.declared.Mark.{Mark}
 use Rattle.machine.specs.Strokes.{direction_of}

@@ -86,4 +86,3 @@ shape_of-fs c = (fed_lengths c.requires.fact_1 (returns c)).fs
 pub shape_of-fp : goal.shape_of-fp
 unfolding stores_of
 shape_of-fp c = (fed_lengths c.requires.fact_1 (returns c)).fp
-

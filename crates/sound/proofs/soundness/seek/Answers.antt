@@ -16,4 +16,4 @@ find_time-requires c = let a = c.args in
     record { fact_1 = search rules; fact_2 = rw (take-length a.ts.now) c.requires.fact_2 }
 
 pub returns : goal.returns
-returns c = let a = c.args in rw (take-length a.ts.now, to_z-of_z w64 (get_or a.row.now a.j (pos 0)) (record { sfits = c.t-1.given })) at c.find_time.ensures
+returns c = let a = c.args in rw (take-length a.ts.now, to_z-of_z w64 (get_or a.row.now a.j (pos 0)) (record { sfits = search rules })) at c.find_time.ensures

@@ -1,6 +1,5 @@
-use mathlib.Core.Path.{◌≡◌, sym, ◌∙◌}
+use mathlib.Core.Path.{sym, ◌∙◌}
 use Rattle.strokes.specs.Lent.{stores_of, held}
-use Rattle.sound.specs.StandSound.{IsSound}
 use Rattle.question4.proofs.Question4Passed.{is-sound}
 use Rattle.check_bi.proofs.ScanWindows.{clear_none}
 use Rattle.feed.proofs.FeedLaws.{feed_4, handed_back, fed_lengths}
