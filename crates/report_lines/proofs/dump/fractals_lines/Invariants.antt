@@ -1,4 +1,4 @@
-use Prim.Native.Nat.{◌≤◌, ◌-◌}
+use Prim.Native.Nat.{◌≤◌}
 use Rattle.report_lines.proofs.dump.fractals_lines.Given as goal
 
 abbrev pub invariant-loop-left : goal.invariant-loop-left
