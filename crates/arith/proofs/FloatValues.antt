@@ -2,6 +2,7 @@
 -- `HasValue x s a c` says that x is finite, has the sign s, and is a / c in size. Assumes nothing.
 use Rattle.std.proofs.Common.{◌≡◌, ℕ, zero, suc, ◌+◌, ◌-◌, ◌*◌, ◌%◌, ◌^◌, ◌<◌, ◌≤◌, Bool, true, false, cond, not, ◌&&◌, T, eqb, ltb, leb, ℤ, pos, negsuc, sym, refl, ap, ◌∙◌, subst, le_of_suc-le-suc, lt_irrefl, zero-lt-suc, mul_assoc, mul_comm, add-mul, lt_of_mul-lt-mul_right, mul-lt-mul_of_pos_right, mul-pos, one-mul, lt_of_not-le, zero-mul, mul-one, mul_right_comm, not-le_of_lt, mul_left_comm, arith, eqb→eq, ltb→lt, lt→ltb, leb→le, pow_pos, pow-add}
 use native.Mathlib.Nat.{mul-mul-mul_comm, mul-sub, pow-succ'}
+use Rattle.std.specs.Float.{float_with_sign}
 use lib.Dec.{eqb-suc-zero}
 use lib.Pow.{pow-lt}
 use lib.Ieee.{Float, nan, inf, fin, Format, prec, emax, low, up, down, odd, units, round, sum, add, sub, mul, div, neg, unlike, fits}
@@ -181,6 +182,23 @@ neg_units f s q k = go (ltb (q * 2 ^ k) (2 ^ (low f + suc (emax f))))
 
 pub neg-round : (f : Format) (s : Bool) (a c : ℕ) → neg (round f s a c) ≡ round f (not s) a c
 neg-round f s a c = ap neg (round_is f s a c) ∙ neg_units f s _ _ ∙ sym (round_is f (not s) a c)
+
+-- .. and a sign that is put on afterwards replaces it
+with-odd : (t : Bool) (d : ℕ) (s : Bool) (q k l : ℕ) → float_with_sign t (odd d s q k l) ≡ odd d t q k l
+unfolding float_with_sign odd
+with-odd t d s zero k l = refl
+with-odd t d s (suc q) k l = refl
+
+with_units : (f : Format) (t s : Bool) (q k : ℕ) → float_with_sign t (units f s q k) ≡ units f t q k
+unfolding float_with_sign units
+with_units f t s q k = go (ltb (q * 2 ^ k) (2 ^ (low f + suc (emax f))))
+  where
+    go : (b : Bool) → float_with_sign t (cond b (odd (suc (prec f)) s q k (low f)) (inf s)) ≡ cond b (odd (suc (prec f)) t q k (low f)) (inf t)
+    go true = with-odd t (suc (prec f)) s q k (low f)
+    go false = refl
+
+pub with-round : (f : Format) (t s : Bool) (a c : ℕ) → float_with_sign t (round f s a c) ≡ round f t a c
+with-round f t s a c = ap (float_with_sign t) (round_is f s a c) ∙ with_units f t s _ _ ∙ sym (round_is f t a c)
 
 -- the exponent of a zero that fits is 0
 two_up : (p : ℕ) → 0 < p → 2 * p ≡ 1 → ⊥

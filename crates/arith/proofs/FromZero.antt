@@ -1,7 +1,6 @@
 -- Floats from zero up, minus zero left out: an absolute value is one, and so is the sum of two. Assumes nothing.
-use Rattle.std.proofs.Common.{ℕ, zero, suc, ◌+◌, ◌*◌, ◌^◌, ◌<◌, Bool, true, false, cond, not, T, ltb, ℤ, pos, zero-lt-suc, mul-pos, zero-mul, arith, ltb→lt, lt→ltb}
+use Rattle.std.proofs.Common.{ℕ, zero, suc, ◌+◌, ◌*◌, ◌^◌, Bool, true, false, cond, not, T, ltb, pos, zero-mul, arith, ltb→lt}
 use lib.Dec.{not_T}
-use lib.Ieee.Fits.{up_pos}
 use lib.Ieee.{Float, nan, inf, fin, Format, up, down, lt, le, add, sum, round, units, odd, low, emax, prec}
 use Rattle.arith.specs.Order.{abs_of}
 use Rattle.arith.proofs.FloatOrder.{Number, AtMost, le_of}
@@ -31,20 +30,6 @@ zero-most (fin false m e) n =
 
 pub zero-le : (x : Float) → NonNeg x → T (le nought x)
 zero-le x n = le_of nought x (zero-most x n)
-
--- ---- zero and a float's sign and size
-
--- a float other than zero is above it or below it by its sign
-sized : (m : ℕ) (e : ℤ) → 0 < suc m * up e * 1
-sized m e = mul-pos (mul-pos (zero-lt-suc m) (up_pos e)) (zero-lt-suc 0)
-
-pub above_zero_lem : (m : ℕ) (e : ℤ) → T (lt nought (fin false (suc m) e))
-unfolding lt
-above_zero_lem m e = lt→ltb (0 * down e) (suc m * up e * 1) (rw (zero-mul (down e)) (sized m e))
-
-pub below-zero : (m : ℕ) (e : ℤ) → T (lt (fin true (suc m) e) nought)
-unfolding lt
-below-zero m e = let p = sized m e in lt→ltb 0 (suc m * up e * 1 + 0 * down e) (omega arith)
 
 -- ---- absolute values
 

@@ -1,26 +1,28 @@
 -- What the functions of src/rounding.rt answer from `is_finite` to `round`: the tests, the part, and each part's number. Assumes nothing.
-use Rattle.std.proofs.Common.{◌≡◌, ℕ, zero, suc, ◌+◌, ◌-◌, ◌*◌, ◌/◌, ◌^◌, ◌<◌, ◌≤◌, Bool, true, false, cond, not, ◌||◌, T, eqb, ltb, ℤ, pos, negsuc, sym, refl, ap, ◌∙◌, subst, lt_of_lt_of_le, lt_of_le_of_lt, lt_irrefl, mul-le-mul_right, mod-lt, zero-lt-suc, mul_assoc, mul_comm, div-lt_iff_lt-mul, mul-pos, one-mul, div-add-mod', mul-one, arith, eqb→eq, ltb→lt, lt→ltb, nltb→le, pow_pos}
+use Rattle.std.proofs.Common.{◌≡◌, ℕ, zero, suc, ◌+◌, ◌-◌, ◌*◌, ◌/◌, ◌^◌, ◌<◌, ◌≤◌, Bool, true, false, not, ◌||◌, T, eqb, ltb, ℤ, pos, negsuc, sym, refl, inl, inr, ap, ◌∙◌, subst, lt_of_lt_of_le, lt_of_le_of_lt, mul-le-mul_right, mod-lt, zero-lt-suc, mul_assoc, mul_comm, div-lt_iff_lt-mul, mul-pos, one-mul, div-add-mod', mul-one, arith, eqb→eq, ltb→lt, lt→ltb, pow_pos}
 use native.Mathlib.Nat.{mod-one, mod-le, eq_of_mul-eq-mul_right}
 use mathlib.Core.Bool.{beq}
 use lib.Dec.{not_T}
-use lib.Ieee.{Float, nan, inf, fin, binary64, low, up, down, round, sum, sub, neg, fits, to_unsigned, lt, eq}
+use lib.Ieee.{Float, nan, inf, fin, binary64, low, up, down, round, sum, add, sub, neg, fits, is_nan, lt, eq}
 use lib.Ieee.Fits.{down_pos, and_l, and_i, eq→eqb}
-use lib.Ieee.Bits.{is_true, cond_no}
+use lib.Ieee.Bits.{cond_no}
 use lib.Ieee.Exact.{HasValue}
 use lib.Ieee.Scale.{finite}
 use lib.Ieee.Back.{whole_unique, round_whole}
-use lib.Ieee.Positive.{positive, num, den, den_pos}
+use lib.Ieee.Positive.{positive, num, den}
 use Rattle.arith.specs.declared.rounding.Part.TheVariants.{Whole, Nearest, Tie}
 use Rattle.arith.specs.Order.{abs_of}
 use Rattle.arith.specs.Rounding.{half_up, round_away}
 use Rattle.arith.specs.RoundingParts.{FallsTo, ToNearest, TiesToAway}
 use Rattle.arith.specs.Code.RoundingTests.{IsFraction}
-use Rattle.arith.proofs.FloatOrder.{no, contra, or_l}
-use Rattle.arith.proofs.FromZero.{nought, zero-most, below-zero}
-use Rattle.arith.proofs.FloatValues.{value-times, sub_at, fine, units_of, exact_in, neg-round, zero_exp}
+use Rattle.arith.proofs.FloatOrder.{contra, or_l, lt-or_ge}
+use Rattle.arith.proofs.FromZero.{nought}
+use Rattle.std.specs.Float.{NotNan, float_is_finite, float_with_sign, is_sign_negative, round_with, fract}
+use lib.Ieee.Scale.{round_same}
+use Rattle.arith.proofs.FloatValues.{value-times, add_at, sub_at, fine, units_of, exact_in, round-own, with-round, zero_exp}
 use Rattle.arith.proofs.RoundingLaws.{zero-whole, rounded-fits}
-use Rattle.arith.proofs.RoundingParts.{left_over, whole-left, near-left, half-left, big_left, whole-near, whole_halfway, fraction_below, cut-at, half-tie, four_parts}
-use Rattle.arith.proofs.RoundSteps.{cut_val, above_minus, below_top, of_below_top}
+use Rattle.arith.proofs.RoundingParts.{left_over, whole-left, near-left, half-left, big_left, whole-near, fraction_below, half-tie, four_parts}
+use Rattle.arith.proofs.RoundSteps.{below_top}
 
 -- 2 ^ 52 and one half
 abbrev edge : Float
@@ -36,41 +38,12 @@ pub flip : (b c : Bool) → not b ≡ c → b ≡ not c
 flip true c e = ap not e
 flip false c e = ap not e
 
--- `is_finite`
-pub finite-is : (x : Float) → lt (abs_of x) (inf false) ≡ finite x
-unfolding lt abs_of
+-- the library's test and the one of the parts
+pub finite-is : (x : Float) → float_is_finite x ≡ finite x
+unfolding float_is_finite
 finite-is nan = refl
 finite-is (inf s) = refl
 finite-is (fin s m e) = refl
-
--- the size of x as a fraction, below 2 ^ 52, and what is left of it by the cut
-pub abs-value : (x : Float) → T (lt (abs_of x) edge) → HasValue (abs_of x) false (num x) (den x)
-unfolding lt abs_of
-abs-value nan h = absurd h
-abs-value (inf s) h = absurd h
-abs-value (fin s m e) h = (refl, refl)
-
-pub abs_under : (x : Float) → T (lt (abs_of x) edge) → num x < 2 ^ 52 * den x
-unfolding lt abs_of
-abs_under nan h = absurd h
-abs_under (inf s) h = absurd h
-abs_under (fin s m e) h = of_below_top 52 m e h
-
-module _ (x : Float) (h : T (lt (abs_of x) edge)) where
-  wider : (a c : ℕ) → a < 2 ^ 52 * c → a < 2 ^ 64 * c
-  wider a c g = omega arith
-
-  pub abs_wide : num x < 2 ^ 64 * den x
-  abs_wide = wider (num x) (den x) (abs_under x h)
-
-  pub cut_asks : T (lt (fin true 1 (pos 0)) (abs_of x)) × T (lt (abs_of x) (fin false 1 (pos 64)))
-  cut_asks = (above_minus (abs_of x) (num x) (den x) (abs-value x h), below_top 64 (abs_of x) (num x) (den x) (den_pos x) (abs-value x h) abs_wide)
-
-  pub cut-is : to_unsigned 64 (abs_of x) ≡ num x / den x
-  cut-is = cut_val 64 (abs_of x) (num x) (den x) (den_pos x) (abs-value x h) abs_wide
-
-  pub cut_small : to_unsigned 64 (abs_of x) < 2 ^ 52
-  cut_small = subst (λ (z : ℕ). z < 2 ^ 52) (sym cut-is) ((div-lt_iff_lt-mul (den_pos x)).1 (abs_under x h))
 
 -- ---- `fraction`
 
@@ -92,14 +65,13 @@ left-exact s m (negsuc k) p t =
         times D z p = subst (λ (y : ℕ). y ≤ z * D) (one-mul D) (mul-le-mul_right D p)
 
 -- the whole part taken off the size
-taken_off : (m : ℕ) (e : ℤ) (n : ℕ) → n ≡ m * up e / down e → n ≤ 2 ^ 53 → sub binary64 (fin false m e) (round binary64 false n 1) ≡ round binary64 false (left_over m e) (down e)
+taken_off : (m : ℕ) (e : ℤ) (whole : Float) → HasValue whole false (down e * (m * up e / down e)) (down e) → sub binary64 (fin false m e) whole ≡ round binary64 false (left_over m e) (down e)
 unfolding sum
-taken_off m e n q l =
+taken_off m e whole v =
     let M = m * up e in
     let D = down e in
-    let whole = round binary64 false n 1 in
-    let v : HasValue whole false (D * n) D = subst (HasValue whole false (D * n)) (mul-one D) (value-times D whole false n 1 (round_whole binary64 false n l)) in
-    let d : D * n + left_over m e ≡ M = ap (λ (z : ℕ). z + left_over m e) (ap (λ (z : ℕ). D * z) q ∙ mul_comm D (M / D)) ∙ div-add-mod' M D in
+    let n = M / D in
+    let d : D * n + left_over m e ≡ M = ap (λ (z : ℕ). z + left_over m e) (mul_comm D n) ∙ div-add-mod' M D in
     sub_at binary64 (fin false m e) whole false false M (D * n) D (down_pos e) (refl, refl) v
     ∙ cond_no (ltb M (D * n)) (round binary64 true (D * n - M) D) (round binary64 false (M - D * n) D) (not_T (ltb M (D * n)) (λ h. least (D * n) (left_over m e) M d (ltb→lt M (D * n) h)))
     ∙ ap (λ (z : ℕ). round binary64 false z D) (left (D * n) (left_over m e) M d)
@@ -110,31 +82,39 @@ taken_off m e n q l =
     left : (z r M : ℕ) → z + r ≡ M → M - z ≡ r
     left z r M d = omega arith
 
-pub fraction_near : (x : Float) → T (fits binary64 x) → T (lt (abs_of x) edge) → IsFraction x (sub binary64 (abs_of x) (round binary64 false (to_unsigned 64 (abs_of x)) 1))
-unfolding lt abs_of
-fraction_near nan t h = tt
-fraction_near (inf s) t h = tt
-fraction_near (fin s m e) t h =
-    subst (λ (z : Float). HasValue z false (left_over m e) (down e)) (sym (taken_off m e (to_unsigned 64 (fin false m e)) (cut-is (fin s m e) h) (small (to_unsigned 64 (fin false m e)) (cut_small (fin s m e) h)))) (exact s m e t)
+-- the whole part is a float: below 2 ^ 52 it is small, and from there on it is the size itself
+whole_value : (s : Bool) (m : ℕ) (e : ℤ) → 0 < m → T (fits binary64 (fin s m e)) → HasValue (round binary64 false (m * up e / down e) 1) false (down e * (m * up e / down e)) (down e)
+unfolding fits
+whole_value s m e p t = elim (lt-or_ge (m * up e) (2 ^ 52 * down e)) [
+  | inl l ↦ below (m * up e / down e) (down e) (small (m * up e / down e) ((div-lt_iff_lt-mul (down_pos e)).1 l))
+  | inr g ↦ own (m * up e) (down e) (m * up e / down e) (down_pos e) (none (m * up e / down e) (m * up e) (down e) (left_over m e) (div-add-mod' (m * up e) (down e)) (big_left s m e t g)) (round-own binary64 false m e p t)
+]
   where
     small : (n : ℕ) → n < 2 ^ 52 → n ≤ 2 ^ 53
     small n l = omega arith
 
-    exact : (s : Bool) (m : ℕ) (e : ℤ) → T (fits binary64 (fin s m e)) → HasValue (round binary64 false (left_over m e) (down e)) false (left_over m e) (down e)
-    exact s zero e t = subst (λ (d : ℤ). HasValue (round binary64 false (left_over 0 d) (down d)) false (left_over 0 d) (down d)) (sym (zero_exp binary64 s e t)) (round_whole binary64 false 0 (omega arith))
-    exact s (suc m) e t = left-exact s (suc m) e (zero-lt-suc m) t
+    below : (n D : ℕ) → n ≤ 2 ^ 53 → HasValue (round binary64 false n 1) false (D * n) D
+    below n D l = subst (HasValue (round binary64 false n 1) false (D * n)) (mul-one D) (value-times D (round binary64 false n 1) false n 1 (round_whole binary64 false n l))
 
-far-le : (m : ℕ) (e : ℤ) → ltb (m * up e * 1) (1 * 2 ^ 52 * down e) ≡ false → 2 ^ 52 * down e ≤ m * up e
-far-le m e h = rw (mul-one, one-mul) at (nltb→le (m * up e * 1) (1 * 2 ^ 52 * down e) (no (ltb (m * up e * 1) (1 * 2 ^ 52 * down e)) h))
+    none : (n a c r : ℕ) → n * c + r ≡ a → r ≡ 0 → c * n ≡ a
+    none n a c r h z = omega arith
 
-pub fraction_far : (x : Float) → T (fits binary64 x) → lt (abs_of x) edge ≡ false → IsFraction x nought
-unfolding lt abs_of
-fraction_far nan t h = tt
-fraction_far (inf s) t h = tt
-fraction_far (fin s m e) t h = (refl, none (down e) (left_over m e) (big_left s m e t (far-le m e h)))
-  where
-    none : (c r : ℕ) → r ≡ 0 → 0 * 1 * c ≡ r * 1
-    none c r z = omega arith
+    own : (M D n : ℕ) → 0 < D → D * n ≡ M → HasValue (round binary64 false M D) false M D → HasValue (round binary64 false n 1) false (D * n) D
+    own M D n P h v =
+        subst (λ (a : ℕ). HasValue (round binary64 false n 1) false a D) (sym h)
+        (subst (λ (x : Float). HasValue x false M D) (round_same binary64 false M D n 1 P (zero-lt-suc 0) (mul-one M ∙ sym h ∙ mul_comm D n)) v)
+
+none-of-zero : HasValue (fract binary64 nought) false 0 1
+unfolding round_with sub add neg sum round
+none-of-zero = (refl, refl)
+
+pub fraction-is : (x : Float) → T (fits binary64 x) → IsFraction x (fract binary64 (float_with_sign false x))
+unfolding float_with_sign round_with
+fraction-is nan t = tt
+fraction-is (inf s) t = tt
+fraction-is (fin s zero e) t = subst (λ (d : ℤ). HasValue (fract binary64 (fin false 0 d)) false (left_over 0 d) (down d)) (sym (zero_exp binary64 s e t)) none-of-zero
+fraction-is (fin s (suc m) e) t =
+    subst (λ (z : Float). HasValue z false (left_over (suc m) e) (down e)) (sym (taken_off (suc m) e (round binary64 false (suc m * up e / down e) 1) (whole_value s (suc m) e (zero-lt-suc m) t))) (left-exact s (suc m) e (zero-lt-suc m) t)
 
 -- ---- `==` between floats from zero up that are a / c and b / d
 
@@ -218,39 +198,40 @@ near-small nan t h = absurd h.2
 near-small (inf s) t h = absurd h.2
 near-small (fin s m e) t h = small_size s m e t (λ (w : FallsTo (fin s m e) Whole). whole-near (m * up e) (down e) w.1 h.1 (down_pos e) w.2.1 h.2.1)
 
-pub tie-small : (x : Float) → T (fits binary64 x) → FallsTo x Tie → SmallSize x
-tie-small nan t h = absurd h.2
-tie-small (inf s) t h = absurd h.2
-tie-small (fin s m e) t h = small_size s m e t (λ (w : FallsTo (fin s m e) Whole). whole_halfway (m * up e) (down e) w.1 h.1 (down_pos e) w.2.1 h.2.1)
+pub near-number : (x : Float) → FallsTo x Nearest → NotNan x
+unfolding is_nan
+near-number nan h = absurd h.2
+near-number (inf s) h = tt
+near-number (fin s m e) h = tt
 
--- `with_sign`
-signed : (s : Bool) (m : ℕ) (e : ℤ) (n : ℕ) → 0 < m → cond (lt (fin s m e) nought) (neg (round binary64 false n 1)) (round binary64 false n 1) ≡ round binary64 s n 1
-signed s zero e n p = absurd (lt_irrefl 0 p)
-signed true (suc m) e n p =
-    ap (λ (b : Bool). cond b (neg (round binary64 false n 1)) (round binary64 false n 1)) (is_true (lt (fin true (suc m) e) nought) (below-zero m e)) ∙ neg-round binary64 false n 1
-signed false (suc m) e n p = cond_no (lt (fin false (suc m) e) nought) (neg (round binary64 false n 1)) (round binary64 false n 1) (zero-most (fin false (suc m) e) tt).test
+pub tie-number : (x : Float) → FallsTo x Tie → NotNan x
+unfolding is_nan
+tie-number nan h = absurd h.2
+tie-number (inf s) h = tt
+tie-number (fin s m e) h = tt
 
-abbrev with_sign : Float → ℕ → Float
-with_sign x n = cond (lt x nought) (neg (round binary64 false n 1)) (round binary64 false n 1)
+-- what is taken of the size, with the sign of x
+abbrev signed : Float → Float → Float
+signed x y = float_with_sign (is_sign_negative x) y
 
-pub near-signed : (x : Float) → T (fits binary64 x) → FallsTo x Nearest → with_sign x (half_up (num (abs_of x)) (den (abs_of x))) ≡ round_away x
-unfolding round_away abs_of
-near-signed nan t h = absurd h.2
-near-signed (inf s) t h = absurd h.2
-near-signed (fin s m e) t h = signed s m e (half_up (m * up e) (down e)) (ltb→lt 0 m (near-small (fin s m e) t h).above)
+pub near-signed : (x : Float) → FallsTo x Nearest → signed x (round binary64 false (half_up (num (abs_of x)) (den (abs_of x))) 1) ≡ round_away x
+unfolding round_away abs_of is_sign_negative
+near-signed nan h = absurd h.2
+near-signed (inf s) h = absurd h.2
+near-signed (fin s m e) h = with-round binary64 s false (half_up (m * up e) (down e)) 1
 
-pub tie-signed : (x : Float) → T (fits binary64 x) → FallsTo x Tie → with_sign x (to_unsigned 64 (abs_of x) + 1) ≡ round_away x
-unfolding round_away abs_of
-tie-signed nan t h = absurd h.2
-tie-signed (inf s) t h = absurd h.2
-tie-signed (fin s m e) t h =
-    let g = tie-small (fin s m e) t h in
-    signed s m e (to_unsigned 64 (fin false m e) + 1) (ltb→lt 0 m g.above)
-    ∙ ap (λ (z : ℕ). round binary64 s (z + 1) 1) (cut-is (fin s m e) g.below ∙ halved (m * up e) (down e) h.1 (down_pos e) h.2.1)
-    ∙ ap (λ (z : ℕ). round binary64 s z 1) (sym (half-tie (m * up e) (down e) h.1 (down_pos e) h.2.1))
+pub tie-signed : (x : Float) → FallsTo x Tie → signed x (add binary64 (abs_of x) one_half) ≡ round_away x
+unfolding round_away abs_of is_sign_negative sum
+tie-signed nan h = absurd h.2
+tie-signed (inf s) h = absurd h.2
+tie-signed (fin s m e) h =
+    let n = h.1 in
+    ap (float_with_sign s) (add_at binary64 (fin false m e) one_half false false (2 * n + 1) 1 2 (zero-lt-suc 1) (refl, h.2.1) (refl, refl) ∙ round_same binary64 false (2 * n + 1 + 1) 2 (n + 1) 1 (zero-lt-suc 1) (zero-lt-suc 0) (twofold n))
+    ∙ with-round binary64 s false (n + 1) 1
+    ∙ ap (λ (z : ℕ). round binary64 s z 1) (sym (half-tie (m * up e) (down e) n (down_pos e) h.2.1))
   where
-    halved : (a c n : ℕ) → 0 < c → a * 2 ≡ (2 * n + 1) * c → a / c ≡ n
-    halved a c n C h = cut-at a c n C (omega arith) (omega arith)
+    twofold : (n : ℕ) → (2 * n + 1 + 1) * 1 ≡ (n + 1) * 2
+    twofold n = omega arith
 
 -- ---- `round`
 

@@ -1,5 +1,5 @@
 -- Whole rounding and powers of ten: laws of `round_away`, `half_up` and `ten_to` of specs/Rounding.antt. Assumes nothing.
-use Rattle.std.proofs.Common.{◌≡◌, ℕ, zero, suc, ◌+◌, ◌*◌, ◌/◌, ◌%◌, ◌^◌, ◌<◌, ◌≤◌, Bool, false, T, ℤ, pos, negsuc, sym, refl, ap, ◌∙◌, subst, inl, inr, le_trans, le_of_lt, mod-lt, zero-lt-suc, div-lt_iff_lt-mul, div-add-mod', zero-mul, mul-one, mul_left_comm, arith, lit≤, pow_pos}
+use Rattle.std.proofs.Common.{◌≡◌, ℕ, zero, suc, ◌+◌, ◌*◌, ◌/◌, ◌%◌, ◌^◌, ◌<◌, ◌≤◌, Bool, false, T, List, [], ◌∷◌, get_or, ℤ, pos, negsuc, sym, refl, ap, ◌∙◌, subst, inl, inr, le_trans, le_of_lt, add-zero, mod-lt, zero-lt-suc, div-lt_iff_lt-mul, div-add-mod', zero-mul, mul-one, mul_left_comm, arith, lit≤, pow_pos}
 use native.Mathlib.Nat.{mod-one, mul-mod_left, min-eq_left, pow-succ', pow-le-pow_right}
 use lib.Ieee.{Float, nan, inf, fin, binary64, up, down, round, fits, of_int}
 use lib.Ieee.Fits.{down_pos, round-fits, nan-fits, inf-fits}
@@ -119,3 +119,16 @@ half-up-near a c p = ends (half_up a c * c) a c ((2 * a + c) % (2 * c)) (sym (mu
 pub ten-exact : (d : ℕ) → d ≤ 6 → HasValue (ten_to d) false (10 ^ d) 1
 unfolding ten_to of_int
 ten-exact d h = rw (min-eq_left h) (round_whole binary64 false (10 ^ d) (le_trans (pow-le-pow_right (zero-lt-suc 9) h) (lit≤ {m = 10 ^ 6} {n = 2 ^ 53} tt)))
+
+-- the table: n powers from 10 ^ i on
+abbrev pub powers_from : ℕ → ℕ → List Float
+powers_from i zero = []
+powers_from i (suc n) = of_int binary64 (pos (10 ^ i)) ∷ powers_from (suc i) n
+
+pub power_at : (i n k : ℕ) (z : Float) → k < n → get_or (powers_from i n) k z ≡ of_int binary64 (pos (10 ^ (i + k)))
+power_at i zero k z h = absurd (omega arith)
+power_at i (suc n) zero z h = ap (λ (j : ℕ). of_int binary64 (pos (10 ^ j))) (sym (add-zero i))
+power_at i (suc n) (suc k) z h = power_at (suc i) n k z (omega arith) ∙ ap (λ (j : ℕ). of_int binary64 (pos (10 ^ j))) (shifted i k)
+  where
+    shifted : (i k : ℕ) → suc i + k ≡ i + suc k
+    shifted i k = omega arith

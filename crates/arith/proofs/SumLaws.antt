@@ -1,11 +1,12 @@
 -- Laws of the sums of specs/Sums.antt. The accumulators, fed the values of a list in order, give what the definitions over the list say
 -- (`sum_is`, `mean_is`, `slope-is`, `acceleration-is`, `snr-is`), and the places and counts are the whole numbers that the Rust casts
 -- (`count-whole`, `term_at`). Assumes nothing.
-use Rattle.std.proofs.Common.{◌≡◌, ℕ, zero, suc, ◌+◌, ◌-◌, ◌*◌, ◌/◌, ◌^◌, ◌<◌, ◌≤◌, min, Bool, true, false, cond, not, ◌&&◌, T, ltb, ◌⊎◌, List, [], ◌∷◌, map, length, get_or, drop, ℤ, pos, sym, refl, ap, ◌∙◌, subst, inl, inr, true≢false, zero-le, le_trans, le_refl, le_of_suc-le-suc, add-zero, le_of_lt, zero-lt-suc, mul_assoc, lt_of_mul-lt-mul_right, eq-or-lt_of_le, mul-lt-mul_of_pos_right, mul-pos, one-mul, zero-add, zero-mul, mul-one, mul_right_comm, add-one, arith, lit≤, ltb→lt, lt→ltb, nltb→le, drop_of_length-le, drop-cons, le-ltb}
+use Rattle.std.proofs.Common.{◌≡◌, ℕ, zero, suc, ◌+◌, ◌-◌, ◌*◌, ◌/◌, ◌^◌, ◌<◌, ◌≤◌, min, Bool, true, false, cond, not, ◌&&◌, T, ltb, ◌⊎◌, List, [], ◌∷◌, map, length, get_or, drop, ℤ, pos, sym, refl, ap, ◌∙◌, subst, inl, inr, true≢false, le_trans, le_refl, add-zero, le_of_lt, zero-lt-suc, mul_assoc, lt_of_mul-lt-mul_right, eq-or-lt_of_le, mul-lt-mul_of_pos_right, mul-pos, one-mul, zero-add, zero-mul, mul-one, mul_right_comm, add-one, arith, lit≤, ltb→lt, lt→ltb, nltb→le, drop_of_length-le, drop-cons, le-ltb}
 use mathlib.Core.List.{foldl}
-use native.Mathlib.Nat.{min-eq_left, min-eq_right, min-le_right, suc-min-suc}
+use native.Mathlib.Nat.{min-eq_left, min-eq_right, min-le_right}
 use lib.Ieee.{Float, nan, inf, fin, Format, binary64, prec, low, emax, up, down, size, round, sum, add, sub, lt, fits, of_int, to_bits, of_bits}
-use lib.Ieee.Fits.{up_pos, down_pos, nan-fits, round-fits, mul-fits}
+use lib.Ieee.Fits.{up_pos, down_pos, nan-fits, round-fits, sub-fits, mul-fits}
+use Rattle.arith.specs.Order.{abs_of}
 use lib.Ieee.Bits.{of_bits-to_bits}
 use lib.Ieee.Back.{round_whole}
 use lib.Ieee.Exact.{HasValue}
@@ -14,10 +15,10 @@ use Rattle.arith.proofs.FloatValues.{round-own, zero_exp, add_at}
 use Rattle.arith.specs.declared.sums.MeanSums.{MeanSums}
 use Rattle.arith.specs.declared.sums.SlopeSums.{SlopeSums}
 use Rattle.arith.specs.declared.sums.FitSums.{FitSums}
-use Rattle.arith.specs.declared.sums.SnrSums.{SnrSums}
-use Rattle.arith.specs.Sums.{zero_f, minus_zero, one_f, two_f, three_f, plus, over, sum_of, sum_from_zero, count_from, count_of, terms_from, terms, quotient, mean_of}
-use Rattle.arith.specs.Sums.{middle, cross, square, slope_of, x4_of, x3_of, x2_of, x1_of, x2y_of, xy_of, y_of, fit_sums, fit_of, acceleration_of, change_of, last_from, snr_of, pairs}
-use Rattle.arith.specs.Code.Accumulators.{mean_start, mean_more, mean_end, slope_start, slope_more, slope_end, slope_end_if, fit_start, fit_more, fit_end, fit_end_if, snr_start, snr_more, snr_more_if, snr_end, snr_end_if}
+use Rattle.arith.specs.declared.sums.SnrSums.TheVariants.{Bars}
+use Rattle.arith.specs.Sums.{zero_f, minus_zero, one_f, two_f, three_f, plus, less, over, sum_of, sum_from_zero, count_from, count_of, terms_from, terms, quotient, mean_of}
+use Rattle.arith.specs.Sums.{middle, cross, square, slope_of, x4_of, x3_of, x2_of, x1_of, x2y_of, xy_of, y_of, fit_sums, fit_of, acceleration_of, change_of, last_from, snr_of}
+use Rattle.arith.specs.Code.Accumulators.{mean_start, mean_more, mean_end, slope_start, slope_more, slope_end, slope_end_if, fit_start, fit_more, fit_end, fit_end_if, snr_start, snr_more, snr_end}
 
 -- ---- -0.0 is where a sum from its first term may start
 
@@ -81,6 +82,25 @@ plus-minus-zero (fin s zero e) t =
 plus-minus-zero (fin s (suc m) e) t =
     from_zero_lem (0 * 1 * down e) (suc m * up e * 1) (1 * down e) (suc m * up e) (down e) s (zero-mul (down e)) (mul-one (suc m * up e)) (one-mul (down e)) (mul-pos (zero-lt-suc m) (up_pos e))
     ∙ round_self s (suc m) e t
+
+-- 0.0 + x is x where x has no minus sign
+zero-plus-size : (x : Float) → T (fits binary64 x) → plus zero_f (abs_of x) ≡ abs_of x
+unfolding add sum abs_of fits
+zero-plus-size nan t = refl
+zero-plus-size (inf s) t = refl
+zero-plus-size (fin s zero e) t = let z = zero_exp binary64 s e t in ap (λ (d : ℤ). add binary64 zero_f (fin false zero d)) z ∙ ap (λ (d : ℤ). fin false zero d) (sym z)
+zero-plus-size (fin s (suc m) e) t =
+    ap (λ (z : ℕ). round binary64 false z (1 * down e)) (bare (suc m * up e) (down e))
+    ∙ ap (λ (z : ℕ). round binary64 false (suc m * up e) z) (one-mul (down e))
+    ∙ round_self false (suc m) e t
+  where
+    bare : (M D : ℕ) → 0 * 1 * D + M * 1 ≡ M
+    bare M D = omega arith
+
+-- so a sum of changes may begin with the first of them
+zero-plus-change : (p : Float × Float) → plus zero_f (change_of p) ≡ change_of p
+unfolding change_of
+zero-plus-change p = zero-plus-size (less p.1 p.0) (sub-fits binary64 p.1 p.0)
 
 pub from_first : (l : List Float) → T (fits binary64 (get_or l 0 nan)) → foldl plus minus_zero l ≡ sum_of l
 unfolding sum_of
@@ -249,9 +269,8 @@ fit_fold s [] = refl
 fit_fold s (y ∷ l) = fit_fold (fit_more s y) l
 
 -- from the second bar on
-snr_fold : (a c t : Float) (l : List (Float × Float))
-    → foldl snr_more (record { bars = 2; first = a; last = c; sum = t }) l ≡ record { bars = 2; first = a; last = last_from c l; sum = foldl plus t (map change_of l) }
-unfolding snr_more snr_more_if last_from
+snr_fold : (a c t : Float) (l : List (Float × Float)) → foldl snr_more (Bars a c t) l ≡ Bars a (last_from c l) (foldl plus t (map change_of l))
+unfolding snr_more last_from
 snr_fold a c t [] = refl
 snr_fold a c t (p ∷ l) = snr_fold a p.1 (plus t (change_of p)) l
 
@@ -334,10 +353,12 @@ acceleration-is (x ∷ y ∷ z ∷ l) = fit_end_lem (x ∷ y ∷ z ∷ l) (three
     three-more n = omega arith
 
 pub snr-is : (l : List (Float × Float)) → snr_end (foldl snr_more snr_start l) ≡ snr_of l
-unfolding snr_of snr_end snr_end_if snr_more snr_more_if sum_from_zero last_from change_of
+unfolding snr_of snr_end snr_more sum_from_zero last_from
 snr-is [] = refl
 snr-is (p ∷ []) = refl
-snr-is (p ∷ q ∷ l) = ap snr_end (snr_fold p.0 q.1 (plus (plus zero_f (change_of p)) (change_of q)) l)
+snr-is (p ∷ q ∷ l) =
+    ap snr_end (snr_fold p.0 q.1 (plus (change_of p) (change_of q)) l)
+    ∙ ap (λ (z : Float). quotient (change_of (p.0, last_from q.1 l)) (foldl plus (plus z (change_of q)) (map change_of l))) (sym (zero-plus-change p))
 
 -- ---- a loop over a list: what is left to take in gives the answer
 
@@ -347,34 +368,3 @@ module _ {A S : Type 0} (f : S → A → S) where
 
   pub fold_end : (l : List A) (i : ℕ) (s e : S) → length l ≤ i → foldl f s (drop i l) ≡ e → s ≡ e
   fold_end l i s e h k = sym (ap (foldl f s) (drop_of_length-le l h)) ∙ k
-
--- ---- two lists as pairs
-
-pub length_pairs : (os cs : List Float) → length (pairs os cs) ≡ min (length os) (length cs)
-unfolding pairs
-length_pairs [] cs = sym (min-eq_left zero-le)
-length_pairs (o ∷ os) [] = sym (min-eq_right zero-le)
-length_pairs (o ∷ os) (c ∷ cs) = ap suc (length_pairs os cs) ∙ sym (suc-min-suc (length os) (length cs))
-
-pub get_d_pairs : (os cs : List Float) (i : ℕ) → i < min (length os) (length cs) → get_or (pairs os cs) i (nan, nan) ≡ (get_or os i nan, get_or cs i nan)
-unfolding pairs
-get_d_pairs [] cs i h = absurd (none i (length cs) h)
-  where
-    none : (i n : ℕ) → i < min 0 n → ⊥
-    none i n h = let e : min 0 n ≡ 0 = min-eq_left zero-le in omega arith
-get_d_pairs (o ∷ os) [] i h = absurd (none i (suc (length os)) h)
-  where
-    none : (i n : ℕ) → i < min n 0 → ⊥
-    none i n h = let e : min n 0 ≡ 0 = min-eq_right zero-le in omega arith
-get_d_pairs (o ∷ os) (c ∷ cs) zero h = refl
-get_d_pairs (o ∷ os) (c ∷ cs) (suc i) h = get_d_pairs os cs i (le_of_suc-le-suc (subst (λ (n : ℕ). suc i < n) (suc-min-suc (length os) (length cs)) h))
-
-module _ (os cs : List Float) (i n : ℕ) where
-  pub pair_turn : (s s' e : SnrSums) → n ≡ min (length os) (length cs) → i < n → s' ≡ snr_more s (get_or os i nan, get_or cs i nan)
-      → foldl snr_more s (drop i (pairs os cs)) ≡ e → foldl snr_more s' (drop (i + 1) (pairs os cs)) ≡ e
-  pair_turn s s' e q h k g =
-      let b : i < min (length os) (length cs) = subst (λ (m : ℕ). i < m) q h in
-      fold_turn snr_more (pairs os cs) i (nan, nan) s s' e (subst (λ (m : ℕ). i < m) (sym (length_pairs os cs)) b) (k ∙ ap (snr_more s) (sym (get_d_pairs os cs i b))) g
-
-  pub pair_end : (s e : SnrSums) → n ≡ min (length os) (length cs) → n ≤ i → foldl snr_more s (drop i (pairs os cs)) ≡ e → s ≡ e
-  pair_end s e q h k = fold_end snr_more (pairs os cs) i s e (subst (λ (m : ℕ). m ≤ i) (q ∙ sym (length_pairs os cs)) h) k

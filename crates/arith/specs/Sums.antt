@@ -1,6 +1,7 @@
 -- The sums behind the measures of a stroke, over a list of values, each operation named in the order in which the Rust of bi.rs does it:
 -- the sum and the mean, get_slope, get_acceleration and get_snr. Definitions only.
 use Rattle.std.specs.Prelude.{Bool, true, false, List, [], ◌∷◌, map, pos, Float}
+use Rattle.std.specs.List.{zip}
 use mathlib.Core.List.{foldl}
 use Rattle.std.specs.Float.{fin, binary64}
 use Rattle.std.specs.Float.Ieee.{round, add, sub, mul, div, lt, eq}
@@ -205,7 +206,5 @@ snr_of (p ∷ []) = change_of p
 snr_of (p ∷ q ∷ l) = quotient (abs_of (less (last_from q.1 l) p.0)) (sum_from_zero (map change_of (p ∷ q ∷ l)))
 
 -- two lists as one of pairs, as far as the shorter one goes
-unfoldable pub pairs : List Float → List Float → List (Float × Float)
-pairs [] cs = []
-pairs (o ∷ os) [] = []
-pairs (o ∷ os) (c ∷ cs) = (o, c) ∷ pairs os cs
+abbrev pub pairs : List Float → List Float → List (Float × Float)
+pairs = zip

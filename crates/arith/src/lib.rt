@@ -7,5 +7,7 @@ mod rounding;
 mod sums;
 
 pub use order::{abs, max, min};
-pub use rounding::{round, round_to_nth_digit};
-pub use sums::{FitSums, MeanSums, SlopeSums, SnrSums, acceleration, mean, slope, snr, sum};
+pub use rounding::{power_of_ten, round, round_to_nth_digit};
+pub use sums::{
+    Accumulator, FitSums, MeanSums, SlopeSums, SnrSums, acceleration, mean, slope, snr, sum,
+};

@@ -1,19 +1,18 @@
 // Whole rounding, which is Rust's f64::round, and rounding to a number of decimal places.
 // Whole rounding is the roundToIntegralTiesToAway of IEEE 754-2019, clause 5.9, in the rounding direction
 // of clause 4.3.1. Its four parts stand in the order in which they are read beside the standard.
-ghost use Rattle.std.specs.Prelude.{◌≡◌, true, false, T, pos, if◌then◌else◌};
+ghost use Rattle.std.specs.Prelude.{◌≡◌, ◌^◌, ◌≤◌, false, T, pos};
 ghost use Rattle.std.specs.Float.Ieee as Ieee;
 ghost use Rattle.std.specs.Float.{fin, binary64};
-ghost use Rattle.std.specs.Float.Ieee.{lt, neg};
+ghost use Rattle.std.specs.Float.Ieee.{lt};
 ghost use Rattle.std.specs.Float.Ieee.Positive.{positive, num, den};
-ghost use Rattle.std.specs.Float.Ieee.Scale.{finite};
-ghost use Rattle.arith.specs.Rounding.{half_up, round_away, ten_to, round_to};
+ghost use Rattle.arith.specs.Rounding.{half_up, round_away, round_to};
 ghost use Rattle.arith.specs.RoundingParts.{IsNotFinite, FallsTo, ToNearest, TiesToAway, FourParts};
 ghost use Rattle.arith.specs.RoundingPlaces.{SevenPlaces};
 ghost use Rattle.arith.specs.Code.RoundingTests.{IsFraction};
 ghost use Rattle.arith.specs.declared.rounding.Part.TheVariants.{Whole, Nearest, Tie};
 
-use crate::order::abs;
+// Kept: f64::round answers the same, but that each part is the standard's is a claim of this project (FourParts), and part_of is what cites it.
 
 // The part that an operand falls to. Every float falls to exactly one.
 #[derive(Clone, Copy)]
@@ -24,29 +23,18 @@ enum Part {
     Tie,
 }
 
-fn is_finite(x: f64) -> bool
-    ensures { result ≡ finite x }
-{
-    abs(x) < 1.0 / 0.0
-}
-
-// What the size of x has behind the point, exactly. From 2^52 on a float has nothing there.
+// What the size of x has behind the point, exactly.
 fn fraction(x: f64) -> f64
     ensures { IsFraction x result }
 {
-    let a = abs(x);
-    if a < 4503599627370496.0 {
-        let n = std::num::truncating_f64_to_u64(a);
-        return a - n as f64;
-    }
-    0.0
+    x.abs().fract()
 }
 
 // Which part x falls to, asked in their order.
 fn part_of(x: f64) -> Part
     ensures { FallsTo x result × FourParts }
 {
-    if !is_finite(x) {
+    if !x.is_finite() {
         return Part::NotFinite;
     }
     let f = fraction(x);
@@ -57,16 +45,6 @@ fn part_of(x: f64) -> Part
         return Part::Nearest;
     }
     Part::Tie
-}
-
-// `a` with the sign of x, for x other than zero and a without a sign.
-fn with_sign(x: f64, a: f64) -> f64
-    ensures { result ≡ (if lt x (fin false 0 (pos 0)) then neg a else a) }
-{
-    if x < 0.0 {
-        return -a;
-    }
-    a
 }
 
 // `a` to the nearest whole number, halves up, for a above 0 and below 2^52: floor(2a) + 1, halved.
@@ -106,7 +84,7 @@ fn nearest(x: f64) -> f64
     requires { FallsTo x Nearest }
     ensures { ToNearest x result }
 {
-    with_sign(x, half_up(abs(x)))
+    half_up(x.abs()).copysign(x)
 }
 
 // 4. Ties: two whole numbers are one half away. Clause 4.3.1, roundTiesToAway, gives the one of larger
@@ -115,8 +93,7 @@ fn tie(x: f64) -> f64
     requires { FallsTo x Tie }
     ensures { TiesToAway x result }
 {
-    let n = std::num::truncating_f64_to_u64(abs(x));
-    with_sign(x, (n + 1) as f64)
+    (x.abs() + 0.5).copysign(x)
 }
 
 // The nearest whole number, halves away from zero, the sign kept on zero.
@@ -131,25 +108,44 @@ pub fn round(x: f64) -> f64
     }
 }
 
-// 10 to the power `nth`, exactly; more than 6 counts as 6.
-fn ten_to(nth: usize) -> f64
-    ensures { result ≡ ten_to nth }
+const POWERS_OF_TEN: [f64; 23] = [
+    1.0,
+    10.0,
+    100.0,
+    1000.0,
+    10000.0,
+    100000.0,
+    1000000.0,
+    10000000.0,
+    100000000.0,
+    1000000000.0,
+    10000000000.0,
+    100000000000.0,
+    1000000000000.0,
+    10000000000000.0,
+    100000000000000.0,
+    1000000000000000.0,
+    10000000000000000.0,
+    100000000000000000.0,
+    1000000000000000000.0,
+    10000000000000000000.0,
+    100000000000000000000.0,
+    1000000000000000000000.0,
+    10000000000000000000000.0,
+];
+
+// 10 to the power k, exactly: the largest is 10^22.
+pub fn power_of_ten(k: usize) -> f64
+    requires { k ≤ 22 }
+    ensures { result ≡ Ieee.of_int binary64 (pos (10 ^ k)) }
 {
-    match nth {
-        0 => 1.0,
-        1 => 10.0,
-        2 => 100.0,
-        3 => 1000.0,
-        4 => 10000.0,
-        5 => 100000.0,
-        _ => 1000000.0,
-    }
+    POWERS_OF_TEN[k]
 }
 
 // `v` to `nth` decimal places, at most 6. What the three operations come to is the same for all seven numbers of places.
 pub fn round_to_nth_digit(v: f64, nth: usize) -> f64
     ensures { (result ≡ round_to nth v) × SevenPlaces }
 {
-    let scale = ten_to(nth);
+    let scale = power_of_ten(nth.min(6));
     round(v * scale) / scale
 }

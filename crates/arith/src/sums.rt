@@ -5,13 +5,28 @@
 // A whole number that the Rust turns into a float is counted up by 1.0 here, so that no cast can
 // lose anything and no number of values is too large. The functions at the end run an accumulator
 // over a slice.
-ghost use Rattle.std.specs.Prelude.{◌≡◌, min};
+ghost use Rattle.std.specs.Prelude.{◌≡◌, Float};
 ghost use mathlib.Core.List.{foldl};
 ghost use Rattle.arith.specs.Sums.{det_with, fit_of, change_of, quotient, sum_of, mean_of, slope_of, acceleration_of, snr_of, pairs};
 ghost use Rattle.arith.specs.SlopeDivisor.{ExactDivisor};
 ghost use Rattle.arith.specs.Code.Accumulators.{mean_start, mean_more, mean_end, slope_start, slope_more, slope_end, fit_start, fit_more, fit_end, snr_start, snr_more, snr_end};
 
 use crate::order::abs;
+
+// What takes in values one by one: `more` gives the sums with one value more.
+pub trait Accumulator: Copy {
+    ghost taking: { Self → Float → Self };
+
+    fn more(self, y: f64) -> Self
+        ensures { result ≡ taking self y };
+
+    // `more` with each value of a slice in turn.
+    final fn each(self, ys: &[f64]) -> Self
+        ensures { result ≡ foldl taking self ys.now }
+    {
+        ys.iter().fold(self, |sums, y| sums.more(*y))
+    }
+}
 
 // How many values, and their sum from the first term on.
 #[derive(Clone, Copy)]
@@ -28,32 +43,21 @@ impl MeanSums {
         MeanSums { n: 0.0, sum: -0.0 }
     }
 
-    pub fn more(self, y: f64) -> Self
-        ensures { result ≡ mean_more self y }
-    {
-        MeanSums {
-            n: self.n + 1.0,
-            sum: self.sum + y,
-        }
-    }
-
-    // `more` with each value of a slice in turn.
-    pub fn each(self, ys: &[f64]) -> Self
-        ensures { result ≡ foldl mean_more self ys.now }
-    {
-        let mut s = self;
-        let mut i: usize = 0;
-        while i < ys.len() {
-            s = s.more(ys[i]);
-            i += 1;
-        }
-        s
-    }
-
     pub fn mean(self) -> f64
         ensures { result ≡ mean_end self }
     {
         self.sum / self.n
+    }
+}
+
+impl Accumulator for MeanSums {
+    ghost taking = { mean_more };
+
+    fn more(self, y: f64) -> Self {
+        MeanSums {
+            n: self.n + 1.0,
+            sum: self.sum + y,
+        }
     }
 }
 
@@ -80,9 +84,20 @@ impl SlopeSums {
         }
     }
 
-    pub fn more(self, y: f64) -> Self
-        ensures { result ≡ slope_more self y }
+    pub fn slope(self) -> f64
+        ensures { result ≡ slope_end self }
     {
+        if self.n < 2.0 {
+            return 0.0;
+        }
+        ratio(self.numerator, self.denominator)
+    }
+}
+
+impl Accumulator for SlopeSums {
+    ghost taking = { slope_more };
+
+    fn more(self, y: f64) -> Self {
         let dx = self.n - self.xmean;
         let dy = y - self.ymean;
         SlopeSums {
@@ -92,28 +107,6 @@ impl SlopeSums {
             numerator: self.numerator + dx * dy,
             denominator: self.denominator + dx * dx,
         }
-    }
-
-    // `more` with each value of a slice in turn.
-    pub fn each(self, ys: &[f64]) -> Self
-        ensures { result ≡ foldl slope_more self ys.now }
-    {
-        let mut s = self;
-        let mut i: usize = 0;
-        while i < ys.len() {
-            s = s.more(ys[i]);
-            i += 1;
-        }
-        s
-    }
-
-    pub fn slope(self) -> f64
-        ensures { result ≡ slope_end self }
-    {
-        if self.n < 2.0 {
-            return 0.0;
-        }
-        ratio(self.numerator, self.denominator)
     }
 }
 
@@ -146,37 +139,6 @@ impl FitSums {
         }
     }
 
-    pub fn more(self, y: f64) -> Self
-        ensures { result ≡ fit_more self y }
-    {
-        let x = self.n;
-        let x2 = x * x;
-        let x3 = x2 * x;
-        FitSums {
-            n: x + 1.0,
-            x4: self.x4 + x3 * x,
-            x3: self.x3 + x3,
-            x2: self.x2 + x2,
-            x: self.x + x,
-            x2y: self.x2y + x2 * y,
-            xy: self.xy + x * y,
-            y: self.y + y,
-        }
-    }
-
-    // `more` with each value of a slice in turn.
-    pub fn each(self, ys: &[f64]) -> Self
-        ensures { result ≡ foldl fit_more self ys.now }
-    {
-        let mut s = self;
-        let mut i: usize = 0;
-        while i < ys.len() {
-            s = s.more(ys[i]);
-            i += 1;
-        }
-        s
-    }
-
     // The determinant of the normal equations by its first column.
     fn det_with(self, a: f64, b: f64, c: f64) -> f64
         ensures { result ≡ det_with a b c self }
@@ -206,44 +168,64 @@ impl FitSums {
     }
 }
 
-// What SNR asks of bars in turn. bars is 0, 1, or 2 for two and more.
+impl Accumulator for FitSums {
+    ghost taking = { fit_more };
+
+    fn more(self, y: f64) -> Self {
+        let x = self.n;
+        let x2 = x * x;
+        let x3 = x2 * x;
+        FitSums {
+            n: x + 1.0,
+            x4: self.x4 + x3 * x,
+            x3: self.x3 + x3,
+            x2: self.x2 + x2,
+            x: self.x + x,
+            x2y: self.x2y + x2 * y,
+            xy: self.xy + x * y,
+            y: self.y + y,
+        }
+    }
+}
+
+// What SNR asks of bars in turn: of the only bar its open and close, of two and more the first open, the
+// last close and the sum of the changes.
 #[derive(Clone, Copy)]
-pub struct SnrSums {
-    pub bars: u8,
-    pub first: f64,
-    pub last: f64,
-    pub sum: f64,
+pub enum SnrSums {
+    NoBar,
+    OneBar { open: f64, close: f64 },
+    Bars { first: f64, last: f64, sum: f64 },
 }
 
 impl SnrSums {
     pub fn new() -> Self
         ensures { result ≡ snr_start }
     {
-        SnrSums {
-            bars: 0,
-            first: 0.0,
-            last: 0.0,
-            sum: 0.0,
-        }
+        SnrSums::NoBar
     }
 
     pub fn more(self, open: f64, close: f64) -> Self
         ensures { result ≡ snr_more self («open», close) }
     {
-        let sum = self.sum + change(open, close);
-        if self.bars == 0 {
-            return SnrSums {
-                bars: 1,
-                first: open,
+        match self {
+            SnrSums::NoBar => SnrSums::OneBar { open, close },
+            SnrSums::OneBar {
+                open: first,
+                close: second,
+            } => SnrSums::Bars {
+                first,
                 last: close,
-                sum: sum,
-            };
-        }
-        SnrSums {
-            bars: 2,
-            first: self.first,
-            last: close,
-            sum: sum,
+                sum: change(first, second) + change(open, close),
+            },
+            SnrSums::Bars {
+                first,
+                last: _,
+                sum,
+            } => SnrSums::Bars {
+                first,
+                last: close,
+                sum: sum + change(open, close),
+            },
         }
     }
 
@@ -251,27 +233,20 @@ impl SnrSums {
     pub fn each(self, opens: &[f64], closes: &[f64]) -> Self
         ensures { result ≡ foldl snr_more self (pairs opens.now closes.now) }
     {
-        let n = shorter(opens.len(), closes.len());
-        let mut s = self;
-        let mut i: usize = 0;
-        while i < n {
-            s = s.more(opens[i], closes[i]);
-            i += 1;
-        }
-        s
+        opens
+            .iter()
+            .zip(closes)
+            .fold(self, |sums, (open, close)| sums.more(*open, *close))
     }
 
     pub fn snr(self) -> f64
         ensures { result ≡ snr_end self }
     {
-        if self.bars == 0 {
-            return 0.0;
+        match self {
+            SnrSums::NoBar => 0.0,
+            SnrSums::OneBar { open, close } => change(open, close),
+            SnrSums::Bars { first, last, sum } => ratio(change(first, last), sum),
         }
-        let whole = change(self.first, self.last);
-        if self.bars == 1 {
-            return whole;
-        }
-        ratio(whole, self.sum)
     }
 }
 
@@ -290,12 +265,6 @@ fn ratio(a: f64, b: f64) -> f64
         return 0.0;
     }
     a / b
-}
-
-fn shorter(a: usize, b: usize) -> usize
-    ensures { result ≡ min a b }
-{
-    if a < b { a } else { b }
 }
 
 // The sum from the first term on; -0.0 of no value.

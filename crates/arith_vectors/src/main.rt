@@ -14,32 +14,18 @@
 
 mod questions;
 
-use lines::Cursor;
-use std::io::Stdout;
+use lines::Unanswered;
 
-// Writes the answer to the line with this number.
-fn answer(to: Stdout, text: &[u8], cursor: Cursor, number: u64) {
-    let n = lines::asked(text, cursor);
-    if n == 0 {
-        return;
-    }
-    if cursor.long {
-        let _ = to.write_all(b"too long\n");
-        return;
-    }
-    questions::reply(to, &text[..n], number);
-}
+// The most bytes of a line that is taken.
+const MOST: usize = 65536;
 
+// Where the input or the output fails, the answers end there.
 fn main(rt: HostRuntime) {
-    let to = rt.stdout();
-    let mut bytes = lines::large_buffer();
-    let mut text = lines::large_buffer();
-    let mut cursor = lines::first_line(rt.stdin());
-    // A proved loop has to end, and nothing says that the input does. So it counts the lines, up to a number that no run reaches.
-    let mut number: u64 = 0;
-    while number < u64::MAX && cursor.open {
-        number += 1;
-        cursor = lines::next_line(&mut bytes, &mut text, cursor);
-        answer(to, &text, cursor, number);
-    }
+    let alloc = rt.alloc();
+    let _ = lines::answer_lines(
+        &rt,
+        MOST,
+        |out, line| questions::answer(out, alloc, line),
+        Unanswered::say,
+    );
 }

@@ -1,4 +1,5 @@
 -- Laws of the steps of the asking: questions 5 to 10, the last stroke, and the plan behind the tail. Assumes nothing.
+use Rattle.std.specs.Prelude as Std
 use Prim.Native.Nat.{ℕ, zero, suc, ◌+◌, ◌-◌, ◌<◌, ◌≤◌}
 use native.Mathlib.Omega.{arith}
 use mathlib.Core.Bool.{Bool, true, false}
@@ -6,10 +7,12 @@ use mathlib.Core.List.{List, [], ◌∷◌, map}
 use mathlib.Core.Option.{Option, none, some}
 use mathlib.Core.Path.{◌≡◌, refl, ap, sym, ◌∙◌, subst}
 use lib.ListN.{length, take, length-map}
+use lib.Seq.{length-take-le}
 use lib.IntN.{ℤ, pos}
 use lib.Signed.{lt_z}
 use lib.Ieee.{Float, binary64, of_bits}
 use borrow.Author.Tests.{lt-ltb, le-ltb}
+use Rattle.std.specs.Prelude.{Some, None}
 use Rattle.bars.specs.declared.Bar.{Bar}
 use Rattle.bars.specs.Bars.{Merged}
 use Rattle.bars.specs.Lists.{last}
@@ -38,8 +41,7 @@ use Rattle.asking.specs.declared.plan.Last.{Last}
 use Rattle.asking.specs.declared.plan.Plan.{Plan}
 use Rattle.asking.specs.declared.questions.Tried.{Tried}
 use Rattle.asking.specs.Code.MergedTail.{CanTail, CanMergeTail, HasTail, bars_only, merged_by}
-use Rattle.asking.specs.Code.FeedPlan.{plan_of, InView}
-use Rattle.asking.specs.Code.Asked.{last_of}
+use Rattle.asking.specs.Code.FeedPlan.{plan_of, bars_made, Long, InView}
 use Rattle.asking.specs.Code.AskSteps.{early_by, EarlyOf, mark_for, last_from, last_in, HasLast, InColumns, CanPlan, bar_candle, TriedWith, CanTry, tried_bars, TriedOf}
 use Rattle.asking.proofs.TailsAgain.{later-bars}
 
@@ -87,42 +89,51 @@ newest-raw s K n h more fits =
     ∙ ap some (raw_at s (n - 1) z (record { times = omega (arith, more); ids = omega (arith, more); prices = omega (arith, more) }))
 
 pub early-newest : (s : RawStore) (K n room q f : ℕ) (b k : Bar) (later : Bool) (x y : ℤ) → SizedRaw s K → (n ≡ 0 → ⊥) → n ≤ K → k ≡ bar_at s (n - 1)
-    → q ≡ first_failed_after true x b → x ≡ k.time → y ≡ b.time → later ≡ lt_z x y → f ≡ early_by q later n room
+    → q ≡ first_failed_after (Std.Some x) b → x ≡ k.time → y ≡ b.time → later ≡ lt_z x y → f ≡ early_by q later n room
     → EarlyOf (last (take n (raw_bars s))) n room b (record { failed = f; later = later })
 unfolding is_later first_failed first_failed_after not_earlier question9
 early-newest s K n room q f b k later x y h more fits reads g e d w v =
     let p = newest-raw s K n h more fits ∙ ap some (sym reads) in
     let t : later ≡ lt_z k.time b.time = w ∙ (λ i. lt_z (e i) (d i)) in
     subst (λ (o : Option Bar). EarlyOf o n room b (record { failed = f; later = later })) (sym p)
-    (record { failed = v ∙ (λ i. early_by ((g ∙ ap (λ (z : ℤ). first_failed_after true z b) e) i) (t i) n room); later = t })
+    (record { failed = v ∙ (λ i. early_by ((g ∙ ap (λ (z : ℤ). first_failed_after (Std.Some z) b) e) i) (t i) n room); later = t })
 
 -- ---- the last stroke
 
-pub last_none : (s : Stand) (ts : List ℤ) (ps : List (List Float)) (n : ℕ) → n ≡ 0
-    → (record { mark = D; high = of_bits binary64 0; low = of_bits binary64 0; bars = 2; time = pos 0 } ≡ last_in n s ts ps) × (2 ≤ 2) × (2 < 4294967296)
-unfolding last_in last_of
-last_none s ts ps n e = (ap (λ (i : ℕ). last_in i s ts ps) (sym e), omega arith, omega arith)
+pub last_none : (s : Stand) (ts : List ℤ) (ps : List (List Float)) (n : ℕ) → n ≡ 0 → None ≡ last_in n s ts ps
+unfolding last_in
+last_none s ts ps n e = ap (λ (i : ℕ). last_in i s ts ps) (sym e)
 
-last_by : (s : Stand) (ts : List ℤ) (ps : List (List Float)) (n : ℕ) → (n ≡ 0 → ⊥) → last_from (last_read s ts ps) ≡ last_in n s ts ps
+last_by : (s : Stand) (ts : List ℤ) (ps : List (List Float)) (n : ℕ) → (n ≡ 0 → ⊥) → Some (last_from (last_read s ts ps)) ≡ last_in n s ts ps
 unfolding last_in
 last_by s ts ps zero h = absurd (h refl)
 last_by s ts ps (suc n) h = refl
 
-pub last_some : {z : ℕ} (s : Stand) (ts : List ℤ) (ps : List (List Float)) (k : LastStroke) (m : Mark) (x : ℤ) → x ≡ k.time → HasLast s ts ps z → (s.strokes ≡ 0 → ⊥) → k ≡ last_read s ts ps → m ≡ mark_for k.direction
-    → (record { mark = m; high = k.high; low = k.low; bars = k.bars; time = x } ≡ last_in s.strokes s ts ps) × (2 ≤ k.bars) × (k.bars < 4294967296)
-unfolding last_from last_read last_bars
-last_some s ts ps k m x reads h kept e g =
-    let w = h.stands (omega (arith, kept)) in
-    let two = w.two in
-    let fit = w.fits in
-    let few = h.few in
-    let n : k.bars ≡ last_bars s = ap (λ (x : LastStroke). x.bars) e in
-    ((λ i. record { mark = g i; high = k.high; low = k.low; bars = k.bars; time = reads i }) ∙ ap last_from e ∙ last_by s ts ps s.strokes kept, omega arith, omega arith)
+module _ {z : ℕ} (s : Stand) (ts : List ℤ) (ps : List (List Float)) (k : LastStroke) (h : HasLast s ts ps z) (kept : s.strokes ≡ 0 → ⊥) (e : k ≡ last_read s ts ps) where
+  pub last_some : (m : Mark) (x : ℤ) → x ≡ k.time → m ≡ mark_for k.direction
+      → Some (record { mark = m; high = k.high; low = k.low; bars = k.bars; time = x }) ≡ last_in s.strokes s ts ps
+  unfolding last_from
+  last_some m x reads g =
+      (λ i. Some (record { mark = g i; high = k.high; low = k.low; bars = k.bars; time = reads i })) ∙ ap (λ (w : LastStroke). Some (last_from w)) e ∙ last_by s ts ps s.strokes kept
+
+  pub last_two : (m : Mark) (x : ℤ) → Long (record { mark = m; high = k.high; low = k.low; bars = k.bars; time = x })
+  unfolding last_read last_bars
+  last_two m x =
+      let w = h.stands (omega (arith, kept)) in
+      let two = w.two in
+      let fit = w.fits in
+      let few = h.few in
+      let n : k.bars ≡ last_bars s = ap (λ (x : LastStroke). x.bars) e in
+      record { two = omega arith; few = omega arith }
 
 -- ---- the plan
 
-pub plan_of-last : (kept minimum n : ℕ) (z w : Last) (v : List Candle) (r : Plan) → z ≡ w → (r ≡ plan_of kept minimum z v) × InView r n → (r ≡ plan_of kept minimum w v) × InView r n
-plan_of-last kept minimum n z w v r e h = (h.0 ∙ ap (λ (x : Last). plan_of kept minimum x v) e, h.1)
+-- the columns of the plan's view are equally long
+pub even_rows : {A B : Type 0} (n : ℕ) (l : List A) (m : List B) → n ≤ length l → n ≤ length m → length (take n m) ≡ length (take n l)
+even_rows n l m h k = length-take-le n m k ∙ sym (length-take-le n l h)
+
+pub few_rows : {A B : Type 0} (n m : ℕ) (l : List A) (k : List B) → n ≤ length l → m ≤ length k → n + m < 4294967296 → length (take n l) + length (take m k) < 4294967296
+few_rows n m l k h g f = omega (arith, length-take-le n l h, length-take-le m k g)
 
 -- ---- the view of store and tail
 
@@ -171,14 +182,14 @@ module _ (s : Stand) (u : RawStore) (ts : List ℤ) (ps : List (List Float)) {z 
       let g = z.prices in
       record { times = omega arith; prices = omega arith; tail-times = omega arith; tail-prices = omega arith; few = omega arith }
 
-  pub try_done : (p : Plan) → (p ≡ plan_of s.strokes s.minimum (last_in s.strokes s ts ps) (candles (view n u.times m w.times) (view n u.prices m w.prices))) × InView p (n + m)
+  pub try_done : (p : Plan) → (p ≡ plan_of s.minimum (last_in s.strokes s ts ps) (candles (view n u.times m w.times) (view n u.prices m w.prices))) × InView p (n + m)
       → TriedWith s l ts ps (record { plan = p; total = n + m })
   try_done p q =
       let fits : n ≤ length u.times = (let a = h.fits in omega arith) in
       let few = try_columns.few in
       let in_view = q.1.bars_in in
       record {
-        plan = q.0 ∙ ap (plan_of s.strokes s.minimum (last_in s.strokes s ts ps)) (view-candles u w (length u.times) k n m l h.unfinished fits t);
+        plan = q.0 ∙ ap (plan_of s.minimum (last_in s.strokes s ts ps)) (view-candles u w (length u.times) k n m l h.unfinished fits t);
         total = view-total u w (length u.times) k n m l h.unfinished fits t;
         found = omega arith;
       }
@@ -192,7 +203,7 @@ module _ (later : Bool) (s : Stand) (r : RawStore) (u : MergedStore) (ts : List 
   tried_with t l e q =
       let m = tried_bars later s r u b in
       record {
-        plan = q.plan ∙ ap (plan_of s.strokes s.minimum (last_in s.strokes s ts ps)) (ap (map bar_candle) e ∙ bars-candles m);
+        plan = q.plan ∙ ap (plan_of s.minimum (last_in s.strokes s ts ps)) (ap (map bar_candle) e ∙ bars-candles m);
         total = q.total ∙ ap length e ∙ length-map m (λ k. k.bar);
         found = q.found;
       }

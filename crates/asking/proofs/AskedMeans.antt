@@ -6,6 +6,7 @@ use mathlib.Core.List.{List, [], ◌∷◌, map}
 use mathlib.Core.Option.{Option, none, some}
 use mathlib.Core.Path.{◌≡◌, refl, ap, sym, ◌∙◌, subst}
 use lib.ListN.{length, take}
+use Rattle.std.specs.Prelude.{Some}
 use Rattle.bars.specs.declared.Bar.{Bar}
 use Rattle.bars.specs.Bars.{Merged}
 use Rattle.bars.specs.Lists.{last, init}
@@ -35,7 +36,6 @@ use Rattle.asking.specs.Code.FeedPlan.{plan_of, refused_of}
 use Rattle.asking.specs.Code.Asked.{time_or0, last_of, plan_for, AskedOf}
 use Rattle.asking.specs.Code.AskSteps.{early_by, EarlyOf, mark_for, last_from, last_in, CanTry, tried_bars, TriedOf}
 use Rattle.asking.proofs.PlanMeans.{KeptLast, Planned, plan_means, questions_asked}
-use Rattle.asking.proofs.PlanMeans as means
 
 -- ---- the last stroke
 
@@ -56,15 +56,13 @@ pub record Stood (bs : List Stroke) : Type 0 where
   pub is : 1 ≤ length bs → (last bs ≡ some stroke) × (last (init stroke.bars) ≡ some before)
 
 kept-last : (bs : List Stroke) (h : Stood bs) → KeptLast bs h.stroke (last_of (last bs))
-unfolding last_of time_or0
+unfolding last_of time_or0 last
 kept-last [] h = tt
 kept-last (a ∷ bs) h =
     let q = h.is (omega arith) in
-    let w = h.stroke in (
-      q.0,
-      subst (λ (o : Option Stroke). means.LastIs w (last_of o)) (sym q.0)
-          (record { mark-is = refl; high_is = refl; low-is = refl; bars_are = refl; before = h.before; before-is = q.1; time-is = ap time_or0 q.1 }),
-    )
+    let w = h.stroke in
+    subst (λ (o : Option Stroke). KeptLast (a ∷ bs) w (last_of o)) (sym q.0)
+    (q.0, record { mark-is = refl; high_is = refl; low-is = refl; bars_are = refl; before = h.before; before-is = q.1; time-is = ap time_or0 q.1 })
 
 module _ (s : Stand) (k : MergedStore) (f : FractalStore) (kept : Kept s k f) (stands : 1 ≤ s.strokes → LastStands s s.rooms.strokes) (many : length (kept_strokes s k f) ≡ s.strokes)
     (lb : length s.bars ≡ 65) (lf : length s.fractals ≡ 65) where
@@ -86,13 +84,13 @@ module _ (s : Stand) (k : MergedStore) (f : FractalStore) (kept : Kept s k f) (s
   last_by zero e = ap last_of (sym (no_strokes bs (many ∙ e)))
   last_by (suc n) e =
       let r = read (omega arith) in
-      (λ i. record {
+      (λ i. Some (record {
         mark = (ap mark_for r.direction ∙ mark-back r.stroke.start.mark) i;
         high = r.high i;
         low = r.low i;
         bars = r.count i;
         time = (r.time ∙ sym (ap time_or0 r.last_but_one)) i;
-      })
+      }))
       ∙ ap last_of (sym r.is)
 
   -- what is read of the columns is the last stroke's
@@ -189,15 +187,15 @@ module _ (s : Stand) (m : Stores) (h : Facts s m) (lb : length s.bars ≡ 65) (l
   unfolding tried_bars state_of merged
   bars_are = merged_by_lem e.later st b ∙ ap (λ (x : Bool). merged_with x st b) later-is
 
-  plan-is : plan_of s.strokes s.minimum (last_in s.strokes s m.strokes.times m.fractals.prices) (map candle_of (tried_bars e.later s m.raw m.unfinished b)) ≡ plan_for c st b
+  plan-is : plan_of s.minimum (last_in s.strokes s m.strokes.times m.fractals.prices) (map candle_of (tried_bars e.later s m.raw m.unfinished b)) ≡ plan_for c st b
   unfolding plan_for settings_of state_of kept_strokes
   plan-is =
-      λ i. plan_of (sym h.strokes-length i) s.minimum (last_read_lem s m.strokes m.fractals h.kept h.last-stands strokes_are lb lf i) (map candle_of (bars_are i))
+      λ i. plan_of s.minimum (last_read_lem s m.strokes m.fractals h.kept h.last-stands strokes_are lb lf i) (map candle_of (bars_are i))
 
   planned : Planned c.minimum (merged st b) st.strokes last-here.stroke (plan_for c st b)
   unfolding plan_for settings_of state_of kept_strokes
   planned =
-      plan_means s.minimum (merged st b) (map candle_of (merged st b)) refl last-here.stroke (last_of (last st.strokes)) st.strokes
+      plan_means s.minimum (merged st b) (map candle_of (merged st b)) refl last-here.stroke st.strokes (last_of (last st.strokes))
       (kept-last st.strokes last-here)
 
   -- all of questions 5 to 10 are answered "yes"

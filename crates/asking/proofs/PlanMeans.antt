@@ -7,13 +7,14 @@ use mathlib.Core.Path.{◌≡◌, refl, ap, sym, ◌∙◌, subst}
 use mathlib.Core.Bool.{Bool, true, false, not, ◌&&◌}
 use mathlib.Core.List.{List, [], ◌∷◌, ◌++◌, map}
 use mathlib.Core.Option.{Option, none, some}
-use mathlib.Core.Logic.{inl, inr}
 use lib.ListN.{length, take, drop, get_or, length-drop, length-map, length-append, get_or-map}
 use lib.Seq.{get_or-drop, drop-drop}
 use lib.IntN.{ℤ, pos}
-use lib.Dec.{eqb, leb, ltb, eqb-suc-zero}
+use lib.Dec.{leb, ltb}
 use lib.Ieee.{Float, lt}
 use borrow.Author.Tests.{le-leb, lt-leb, leb-true, ltb-true, ltb-false}
+use Rattle.std.specs.declared.option.Option as code
+use Rattle.std.specs.Prelude.{Some, None}
 use Rattle.arith.specs.Order.{max_of, min_of}
 use Rattle.bars.specs.declared.Bar.{Bar}
 use Rattle.bars.specs.Bars.{Merged}
@@ -25,7 +26,6 @@ use Rattle.machine.specs.declared.Mark.{Mark}
 use Rattle.machine.specs.declared.Mark.TheVariants.{D, G}
 use Rattle.check_bi.specs.declared.check_fx.Candle.{Candle}
 use Rattle.check_bi.specs.declared.check_fx.Fx.{Fx}
-use Rattle.check_bi.specs.declared.scan.Scan.{Scan}
 use Rattle.check_bi.specs.declared.scan.FoundBi.{FoundBi}
 use Rattle.asking.specs.declared.plan.Last.{Last}
 use Rattle.asking.specs.declared.plan.Plan.{Plan}
@@ -37,16 +37,15 @@ use Rattle.machine.specs.Stand.{Settings, State}
 use Rattle.machine.specs.Feed.{Moved, add_found, add_made, make_after, make_if, make, break_if, break_last, move_after, move_if, move}
 use Rattle.machine.specs.Soundness.{bars_of}
 use Rattle.machine.specs.FeedQuestions.{merged, joined_fits, moved_fits, question11, question12, or_else}
-use Rattle.check_bi.specs.Code.Scan.{candle_of, fx_at, fx_placed, blank, no_fx, bars_to, holds_of, scan_of, found_if, found_of, found_from}
+use Rattle.check_bi.specs.Code.Scan.{candle_of, fx_at, fx_placed, scan_of, cut_place, found_on, found_from}
 use Rattle.check_bi.specs.Code.View.{candle_from}
-use Rattle.asking.specs.Code.FeedPlan.{cut_of, breaks_if, breaks_of, last_if, last_with, kept_of, broken_if, join_of, broken_of, times_of, last_candle, plan_if, plan_of, refused_of}
+use Rattle.asking.specs.Code.FeedPlan.{cut_of, end_in, bars_made, breaks_if, breaks_of, last_with, kept_of, broken_if, join_of, broken_of, times_of, last_candle, plan_first, plan_later, plan_if, plan_of, refused_of}
 use Rattle.machine.proofs.Places.{fits}
 use Rattle.machine.proofs.FewerFractals.{nothing_found, end-stands, order}
 use Rattle.check_bi.proofs.ScanPlaces.{MadeAs, Means, cut_means, found_means, place_is}
 use Rattle.strokes.proofs.StoredRaw.{init-take, last-take}
 use Rattle.strokes.proofs.BareStates.{map-drop}
 use Rattle.machine.proofs.StrokesMeet.{last-append}
-use Rattle.asking.proofs.PlanLaws.{last_old}
 
 abbrev time : Merged → ℤ
 time k = k.bar.time
@@ -64,31 +63,33 @@ pub record LastIs (b : Stroke) (z : Last) : Type 0 where
   pub time-is : z.time ≡ time before
 
 -- b is the last of the strokes, if there is one, and z what is read of it
-abbrev pub KeptLast : List Stroke → Stroke → Last → Type 0
-KeptLast [] b z = Unit {0}
-KeptLast (a ∷ bs) b z = (last (a ∷ bs) ≡ some b) × LastIs b z
+abbrev pub KeptLast : List Stroke → Stroke → code.Option Last → Type 0
+KeptLast [] b None = Unit {0}
+KeptLast [] b (Some z) = ⊥
+KeptLast (a ∷ bs) b None = ⊥
+KeptLast (a ∷ bs) b (Some z) = (last (a ∷ bs) ≡ some b) × LastIs b z
 
 -- the last stroke once one is found, if it is
 unfoldable pub last_stroke : Option Stroke → Stroke → Stroke
 last_stroke none b = b
 last_stroke (some s) b = s
 
--- what move makes of m, by whether the stroke w breaks: its bars without the last two come back before the bars l
-unfoldable pub moved_as : Bool → Moved → Stroke → List Merged → Moved
+-- what move makes of m: where the stroke w breaks, its bars without the last two come back before those of the bars l that stand from place j on
+unfoldable pub moved_as : code.Option ℕ → Moved → Stroke → List Merged → Moved
 unfolding init
-moved_as true m w l = record { left = init (init w.bars) ++ l; kept = init m.kept; made = m.made; broken = 1 }
-moved_as false m w l = m
+moved_as (Some j) m w l = record { left = init (init w.bars) ++ drop j l; kept = init m.kept; made = m.made; broken = 1 }
+moved_as None m w l = m
 
 -- ---- what a plan says of the unfinished bars l and the strokes bs, of which b is the last
 
 pub record Planned (minimum : ℕ) (l : List Merged) (bs : List Stroke) (b : Stroke) (p : Plan) : Type 0 where
   pub finds : Means minimum (drop p.cut l) (check_bi minimum (drop p.cut l)) p.found
-  pub makes : make minimum l bs ≡ add_found (check_bi minimum (drop p.cut l)).stroke bs (drop (p.cut + p.found.end.place) l)
-  pub moves : move minimum l bs ≡ moved_as p.broken (make minimum l bs) (last_stroke (check_bi minimum (drop p.cut l)).stroke b) (drop p.join l)
+  pub makes : make minimum l bs ≡ add_found (check_bi minimum (drop p.cut l)).stroke bs (drop (p.cut + end_in p.found) l)
+  pub moves : move minimum l bs ≡ moved_as p.broken (make minimum l bs) (last_stroke (check_bi minimum (drop p.cut l)).stroke b) l
   -- question 11's number and question 12's
   pub leaves : length (move minimum l bs).left ≡ p.left
-  pub counts : bars_of (make minimum l bs).kept ≡ bars_of bs + p.found.bars
-  pub fewer : p.broken ≡ false → p.left ≤ length l
+  pub counts : bars_of (make minimum l bs).kept ≡ bars_of bs + bars_made p.found
+  pub fewer : p.broken ≡ None → p.left ≤ length l
 
 -- ---- lists
 
@@ -151,20 +152,6 @@ joins_at b z i l h =
 
 -- ---- what is found
 
-none_made : (t : Bool) (s : Scan) → (found_if t s).made ≡ false → ((found_if t s).end.place ≡ 0) × ((found_if t s).bars ≡ 0)
-unfolding found_if no_fx
-none_made true s e = let y : ◌≡◌ {A = ℕ} 0 1 = cc in absurd (omega arith)
-none_made false s e = (refl, refl)
-
-abbrev Empty : FoundBi → Type 0
-Empty f = f.made ≡ false → (f.end.place ≡ 0) × (f.bars ≡ 0)
-
-none_found : (minimum lo : ℕ) (v : List Candle) → Empty (found_from minimum lo v)
-unfolding found_from found_of
-none_found minimum lo v =
-    let s = scan_of (drop lo v) in
-    none_made (s.found && (leb minimum (bars_to s) && not (holds_of s.start s.end))) s
-
 -- the stroke that is made, and what is read of it
 module _ (minimum : ℕ) (k : List Merged) (o : Found) (f : FoundBi) (m : MadeAs minimum k o f) where
   abbrev s : Placed
@@ -190,8 +177,8 @@ module _ (minimum : ℕ) (k : List Merged) (o : Found) (f : FoundBi) (m : MadeAs
       let j : f.end.place ≡ e.place = ap (λ (x : Fx). x.place) m.end ∙ place_is e in
       omega arith
 
-  made-last : (z : Last) → LastIs w (last_if true f z)
-  unfolding stroke_at high_of low_of last_if fx_placed fx_at candle_of
+  made-last : (z : Last) → LastIs w (last_with (Some f) z)
+  unfolding stroke_at high_of low_of last_with fx_placed fx_at candle_of
   made-last z =
       let q = end-stands minimum k o m.from in
       record {
@@ -205,32 +192,30 @@ module _ (minimum : ℕ) (k : List Merged) (o : Found) (f : FoundBi) (m : MadeAs
         time-is = ap (λ (x : Fx). x.time) m.end;
       }
 
-module _ (minimum : ℕ) (k : List Merged) (o : Found) (f : FoundBi) (empty : Empty f) where
-  rest-is : Means minimum k o f → o.rest ≡ drop f.end.place k
-  rest-is (inl h) = ap (λ (x : Found). x.rest) h.1 ∙ ap (λ (i : ℕ). drop i k) (sym (empty h.0).0)
-  rest-is (inr h) = made-rest minimum k o f h.1
+module _ (minimum : ℕ) (k : List Merged) (o : Found) where
+  rest-is : (f : code.Option FoundBi) → Means minimum k o f → o.rest ≡ drop (end_in f) k
+  unfolding end_in
+  rest-is None h = ap (λ (x : Found). x.rest) h
+  rest-is (Some f) h = made-rest minimum k o f h
 
-  rest_in : Means minimum k o f → 0 < length k → f.end.place < length k
-  rest_in (inl h) g = omega (arith, (empty h.0).0)
-  rest_in (inr h) g = omega (arith, made_in minimum k o f h.1)
+  rest_in : (f : code.Option FoundBi) → Means minimum k o f → 0 < length k → end_in f < length k
+  unfolding end_in
+  rest_in None h g = g
+  rest_in (Some f) h g = omega (arith, made_in minimum k o f h)
 
-  bars_are : Means minimum k o f → (bs : List Stroke) (r : List Merged) → bars_of (add_found o.stroke bs r).kept ≡ bars_of bs + f.bars
-  unfolding add_found
-  bars_are (inl h) bs r =
-      let g = (empty h.0).1 in
-      ap (λ (x : Found). bars_of (add_found x.stroke bs r).kept) h.1 ∙ (let u : bars_of bs ≡ bars_of bs + f.bars = omega arith in u)
-  bars_are (inr h) bs r =
-      ap (λ (x : Option Stroke). bars_of (add_found x bs r).kept) (stroke-is minimum k o f h.1) ∙ bars_snoc bs (w minimum k o f h.1)
-      ∙ ap (λ (n : ℕ). bars_of bs + n) (sym h.1.bars)
+  bars_are : (f : code.Option FoundBi) → Means minimum k o f → (bs : List Stroke) (r : List Merged) → bars_of (add_found o.stroke bs r).kept ≡ bars_of bs + bars_made f
+  unfolding add_found bars_made
+  bars_are None h bs r =
+      ap (λ (x : Found). bars_of (add_found x.stroke bs r).kept) h ∙ (let u : bars_of bs ≡ bars_of bs + 0 = omega arith in u)
+  bars_are (Some f) h bs r =
+      ap (λ (x : Option Stroke). bars_of (add_found x bs r).kept) (stroke-is minimum k o f h) ∙ bars_snoc bs (w minimum k o f h)
+      ∙ ap (λ (n : ℕ). bars_of bs + n) (sym h.bars)
 
-  last-is : Means minimum k o f → (b : Stroke) (z : Last) → LastIs b z → LastIs (last_stroke o.stroke b) (last_with f z)
+  last-is : (f : code.Option FoundBi) → Means minimum k o f → (b : Stroke) (z : Last) → LastIs b z → LastIs (last_stroke o.stroke b) (last_with f z)
   unfolding last_stroke last_with
-  last-is (inl h) b z g =
-      subst (λ (x : Option Stroke). LastIs (last_stroke x b) (last_with f z)) (sym (ap (λ (x : Found). x.stroke) h.1))
-      (subst (λ (x : Last). LastIs b x) (last_old f z h.0) g)
-  last-is (inr h) b z g =
-      subst (λ (x : Option Stroke). LastIs (last_stroke x b) (last_with f z)) (sym (stroke-is minimum k o f h.1))
-      (subst (λ (x : Bool). LastIs (w minimum k o f h.1) (last_if x f z)) (sym h.0) (made-last minimum k o f h.1 z))
+  last-is None h b z g = subst (λ (x : Option Stroke). LastIs (last_stroke x b) z) (sym (ap (λ (x : Found). x.stroke) h)) g
+  last-is (Some f) h b z g =
+      subst (λ (x : Option Stroke). LastIs (last_stroke x b) (last_with (Some f) z)) (sym (stroke-is minimum k o f h)) (made-last minimum k o f h z)
 
 -- ---- making
 
@@ -245,22 +230,22 @@ add-last none bs r b h = h
 add-last (some s) bs r b h = last-append bs s
 
 -- a plan whose cut and found stroke are these, on l
-module _ (minimum : ℕ) (l : List Merged) (bs : List Stroke) (b : Stroke) (cut : ℕ) (f : FoundBi) (empty : Empty f) (means : Means minimum (drop cut l) (check_bi minimum (drop cut l)) f)
+module _ (minimum : ℕ) (l : List Merged) (bs : List Stroke) (b : Stroke) (cut : ℕ) (f : code.Option FoundBi) (means : Means minimum (drop cut l) (check_bi minimum (drop cut l)) f)
     (made : make minimum l bs ≡ add_made bs (check_bi minimum (drop cut l))) (total : ℕ) (long : total ≡ length l) where
   abbrev found : Found
   found = check_bi minimum (drop cut l)
 
   abbrev rest : ℕ
-  rest = cut + f.end.place
+  rest = cut + end_in f
 
   make-is : make minimum l bs ≡ add_found found.stroke bs (drop rest l)
   unfolding add_made
   make-is =
-      made ∙ ap (add_found found.stroke bs) (rest-is minimum (drop cut l) found f empty means ∙ drop-drop f.end.place cut l)
+      made ∙ ap (add_found found.stroke bs) (rest-is minimum (drop cut l) found f means ∙ drop-drop (end_in f) cut l)
 
-  counts_are : bars_of (make minimum l bs).kept ≡ bars_of bs + f.bars
+  counts_are : bars_of (make minimum l bs).kept ≡ bars_of bs + bars_made f
   counts_are =
-      ap (λ (m : Moved). bars_of m.kept) make-is ∙ bars_are minimum (drop cut l) found f empty means bs (drop rest l)
+      ap (λ (m : Moved). bars_of m.kept) make-is ∙ bars_are minimum (drop cut l) found f means bs (drop rest l)
 
   made-left : (make minimum l bs).left ≡ drop rest l
   made-left = ap (λ (m : Moved). m.left) make-is ∙ add_left found.stroke bs (drop rest l)
@@ -286,28 +271,28 @@ few-found minimum (a ∷ []) h = refl
 few-found minimum (a ∷ b ∷ []) h = refl
 few-found minimum (a ∷ b ∷ c ∷ l) h = absurd (omega arith)
 
-module _ (minimum : ℕ) (l : List Merged) (v : List Candle) (same : v ≡ map candle_of l) (b : Stroke) (z : Last) where
+module _ (minimum : ℕ) (l : List Merged) (v : List Candle) (same : v ≡ map candle_of l) (b : Stroke) where
   long : length v ≡ length l
   long = ap length same ∙ length-map l candle_of
 
-  few_planned : (bs : List Stroke) → length l < 3 → Planned minimum l bs b (kept_of 0 (found_if false blank) (length v))
-  unfolding make make_if move move_if add_made add_found found_if
+  few_planned : (bs : List Stroke) → length l < 3 → Planned minimum l bs b (kept_of 0 None (length v))
+  unfolding make make_if move move_if add_made add_found
   few_planned bs h =
       let t = lt-leb 3 (length l) h in
       let q = few-found minimum l h in
       let m : make minimum l bs ≡ record { left = l; kept = bs; made = 0; broken = 0 } = ap (λ (x : Bool). make_if x minimum l bs) t in
       let n : move minimum l bs ≡ record { left = l; kept = bs; made = 0; broken = 0 } = ap (λ (x : Bool). move_if x minimum l bs) t in
-      kept_planned minimum l bs b 0 (found_if false blank) (none_made false blank) (inl (refl, q)) (m ∙ ap (add_made bs) (sym q)) (length v) long (n ∙ sym m)
+      kept_planned minimum l bs b 0 None q (m ∙ ap (add_made bs) (sym q)) (length v) long (n ∙ sym m)
 
   found_at : (lo : ℕ) → Means minimum (drop lo l) (check_bi minimum (drop lo l)) (found_from minimum lo v)
   unfolding found_from
   found_at lo =
-      subst (λ (x : List Candle). Means minimum (drop lo l) (check_bi minimum (drop lo l)) (found_of minimum (scan_of x))) (map-drop candle_of lo l ∙ ap (drop lo) (sym same))
+      subst (λ (x : List Candle). Means minimum (drop lo l) (check_bi minimum (drop lo l)) (found_on minimum (scan_of x))) (map-drop candle_of lo l ∙ ap (drop lo) (sym same))
       (found_means minimum (drop lo l))
 
   cut-at : cut l ≡ drop (cut_of v) l
   unfolding cut_of
-  cut-at = cut_means l ∙ ap (λ (x : List Candle). drop (scan_of x).cut.place l) (sym same)
+  cut-at = cut_means l ∙ ap (λ (x : List Candle). drop (cut_place (scan_of x)) l) (sym same)
 
   first_planned : 3 ≤ length l → Planned minimum l [] b (kept_of (cut_of v) (found_from minimum (cut_of v) v) (length v))
   unfolding make make_if make_after move move_if move_after
@@ -315,7 +300,7 @@ module _ (minimum : ℕ) (l : List Merged) (v : List Candle) (same : v ≡ map c
       let t = le-leb 3 (length l) h in
       let m : make minimum l [] ≡ make_after minimum l [] = ap (λ (x : Bool). make_if x minimum l []) t in
       let n : move minimum l [] ≡ make_after minimum l [] = ap (λ (x : Bool). move_if x minimum l []) t in
-      kept_planned minimum l [] b (cut_of v) (found_from minimum (cut_of v) v) (none_found minimum (cut_of v) v) (found_at (cut_of v))
+      kept_planned minimum l [] b (cut_of v) (found_from minimum (cut_of v) v) (found_at (cut_of v))
       (m ∙ ap (λ (x : List Merged). add_made [] (check_bi minimum x)) cut-at) (length v) long (n ∙ sym m)
 
   times-map : (k : List Merged) → times_of (map candle_of k) ≡ map time k
@@ -332,8 +317,8 @@ module _ (minimum : ℕ) (l : List Merged) (v : List Candle) (same : v ≡ map c
       get_d_in v (length v - 1) (candle_from (pos 0) []) (candle_of k) (omega (arith, long))
       ∙ (λ i. get_or (same i) (long i - 1) (candle_of k)) ∙ get_or-map candle_of l (length l - 1) k
 
-  module _ (a : Stroke) (bs : List Stroke) (h : 3 ≤ length l) (kept : last (a ∷ bs) ≡ some b) (reads : LastIs b z) where
-    abbrev f : FoundBi
+  module _ (z : Last) (a : Stroke) (bs : List Stroke) (h : 3 ≤ length l) (kept : last (a ∷ bs) ≡ some b) (reads : LastIs b z) where
+    abbrev f : code.Option FoundBi
     f = found_from minimum 0 v
 
     abbrev found0 : Found
@@ -351,11 +336,8 @@ module _ (minimum : ℕ) (l : List Merged) (v : List Candle) (same : v ≡ map c
     abbrev j : ℕ
     j = join_of f c (times_of v)
 
-    empty0 : Empty f
-    empty0 = none_found minimum 0 v
-
     reads0 : LastIs w0 c
-    reads0 = last-is minimum l found0 f empty0 (found_at 0) b z reads
+    reads0 = last-is minimum l found0 f (found_at 0) b z reads
 
     later-make : make minimum l (a ∷ bs) ≡ add_made (a ∷ bs) found0
     unfolding make make_if make_after
@@ -366,22 +348,22 @@ module _ (minimum : ℕ) (l : List Merged) (v : List Candle) (same : v ≡ map c
     later-move =
         ap (λ (y : Bool). move_if y minimum l (a ∷ bs)) (le-leb 3 (length l) h) ∙ ap (λ (m : Moved). break_last m (last m.kept)) (sym later-make)
 
-    made-is : make minimum l (a ∷ bs) ≡ add_found found0.stroke (a ∷ bs) (drop (0 + f.end.place) l)
-    made-is = make-is minimum l (a ∷ bs) b 0 f empty0 (found_at 0) later-make (length v) long
+    made-is : make minimum l (a ∷ bs) ≡ add_found found0.stroke (a ∷ bs) (drop (0 + end_in f) l)
+    made-is = make-is minimum l (a ∷ bs) b 0 f (found_at 0) later-make (length v) long
 
     kept-is : last (make minimum l (a ∷ bs)).kept ≡ some w0
-    kept-is = ap (λ (m : Moved). last m.kept) made-is ∙ add-last found0.stroke (a ∷ bs) (drop (0 + f.end.place) l) b kept
+    kept-is = ap (λ (m : Moved). last m.kept) made-is ∙ add-last found0.stroke (a ∷ bs) (drop (0 + end_in f) l) b kept
 
-    left_is : (make minimum l (a ∷ bs)).left ≡ drop f.end.place l
+    left_is : (make minimum l (a ∷ bs)).left ≡ drop (end_in f) l
     left_is =
-        ap (λ (m : Moved). m.left) made-is ∙ add_left found0.stroke (a ∷ bs) (drop (0 + f.end.place) l) ∙ ap (λ (i : ℕ). drop i l) (zero-add f.end.place)
+        ap (λ (m : Moved). m.left) made-is ∙ add_left found0.stroke (a ∷ bs) (drop (0 + end_in f) l) ∙ ap (λ (i : ℕ). drop i l) (zero-add (end_in f))
 
     tests : breaks w0 (last (make minimum l (a ∷ bs)).left) ≡ x
     unfolding breaks
     tests =
         let k = reads.before in
         ap (λ (y : List Merged). breaks w0 (last y)) left_is
-        ∙ ap (breaks w0) (last-drop k l f.end.place (rest_in minimum l found0 f empty0 (found_at 0) (omega arith)))
+        ∙ ap (breaks w0) (last-drop k l (end_in f) (rest_in minimum l found0 f (found_at 0) (omega arith)))
         ∙ breaks-is w0 c (get_or l (length l - 1) k) reads0 ∙ ap (breaks_of c) (sym (newest k (omega arith)))
 
     moved_is : move minimum l (a ∷ bs) ≡ break_if x (make minimum l (a ∷ bs)) w0
@@ -392,12 +374,12 @@ module _ (minimum : ℕ) (l : List Merged) (v : List Candle) (same : v ≡ map c
     joined_is : joined w0 (make minimum l (a ∷ bs)).left ≡ init (init w0.bars) ++ drop j l
     unfolding join_of
     joined_is =
-        ap (joined w0) left_is ∙ joins_at w0 c f.end.place l reads0
-        ∙ ap (λ (y : List ℤ). init (init w0.bars) ++ drop (f.end.place + place_of c.time (drop f.end.place y)) l) (sym times_are)
+        ap (joined w0) left_is ∙ joins_at w0 c (end_in f) l reads0
+        ∙ ap (λ (y : List ℤ). init (init w0.bars) ++ drop (end_in f + place_of c.time (drop (end_in f) y)) l) (sym times_are)
 
     later_by : (y : Bool) → move minimum l (a ∷ bs) ≡ break_if y (make minimum l (a ∷ bs)) w0 → Planned minimum l (a ∷ bs) b (broken_if y f c j (length v))
     unfolding broken_if break_if moved_as
-    later_by false e = kept_planned minimum l (a ∷ bs) b 0 f empty0 (found_at 0) later-make (length v) long e
+    later_by false e = kept_planned minimum l (a ∷ bs) b 0 f (found_at 0) later-make (length v) long e
     later_by true e =
         let M = make minimum l (a ∷ bs) in
         let g : move minimum l (a ∷ bs) ≡ record { left = init (init w0.bars) ++ drop j l; kept = init M.kept; made = M.made; broken = 1 } =
@@ -410,7 +392,7 @@ module _ (minimum : ℕ) (l : List Merged) (v : List Candle) (same : v ≡ map c
               ap (λ (m : Moved). length m.left) g
               ∙ omega
               (arith, length-append (init (init w0.bars)) (drop j l), init-length (init w0.bars), init-length w0.bars, length-drop j l, reads0.bars_are, long);
-          counts = counts_are minimum l (a ∷ bs) b 0 f empty0 (found_at 0) later-make (length v) long;
+          counts = counts_are minimum l (a ∷ bs) b 0 f (found_at 0) later-make (length v) long;
           fewer = λ q. let y : ◌≡◌ {A = ℕ} 0 1 = cc in absurd (omega arith);
         }
 
@@ -418,18 +400,18 @@ module _ (minimum : ℕ) (l : List Merged) (v : List Candle) (same : v ≡ map c
     unfolding broken_of
     later_planned = later_by x moved_is
 
-  plan_by : (few : Bool) (bs : List Stroke) → ltb (length v) 3 ≡ few → KeptLast bs b z → Planned minimum l bs b (plan_if few (eqb (length bs) 0) minimum z v (length v))
-  unfolding plan_if
-  plan_by true bs e h = few_planned bs (omega (arith, ltb-true (length v) 3 e, long))
-  plan_by false [] e h = first_planned (omega (arith, ltb-false (length v) 3 e, long))
-  plan_by false (a ∷ bs) e h =
-      subst (λ (y : Bool). Planned minimum l (a ∷ bs) b (plan_if false y minimum z v (length v))) (sym (eqb-suc-zero (length bs)))
-      (later_planned a bs (omega (arith, ltb-false (length v) 3 e, long)) h.0 h.1)
+  plan_by : (few : Bool) (bs : List Stroke) (z : code.Option Last) → ltb (length v) 3 ≡ few → KeptLast bs b z → Planned minimum l bs b (plan_if few minimum z v (length v))
+  unfolding plan_if plan_first plan_later
+  plan_by true bs z e h = few_planned bs (omega (arith, ltb-true (length v) 3 e, long))
+  plan_by false [] None e h = first_planned (omega (arith, ltb-false (length v) 3 e, long))
+  plan_by false [] (Some z) e h = absurd h
+  plan_by false (a ∷ bs) None e h = absurd h
+  plan_by false (a ∷ bs) (Some z) e h = later_planned z a bs (omega (arith, ltb-false (length v) 3 e, long)) h.0 h.1
 
   -- the plan is what make and move do
-  pub plan_means : (bs : List Stroke) → KeptLast bs b z → Planned minimum l bs b (plan_of (length bs) minimum z v)
+  pub plan_means : (bs : List Stroke) (z : code.Option Last) → KeptLast bs b z → Planned minimum l bs b (plan_of minimum z v)
   unfolding plan_of
-  plan_means bs h = plan_by (ltb (length v) 3) bs refl h
+  plan_means bs z h = plan_by (ltb (length v) 3) bs z refl h
 
 -- ---- questions 11 and 12
 
@@ -443,17 +425,17 @@ module _ (minimum : ℕ) (l : List Merged) (bs : List Stroke) (b : Stroke) (p : 
   M = move minimum l bs
 
   unbroken : (make minimum l bs).broken ≡ 0
-  unbroken = ap (λ (m : Moved). m.broken) h.makes ∙ add_unbroken (check_bi minimum (drop p.cut l)).stroke bs (drop (p.cut + p.found.end.place) l)
+  unbroken = ap (λ (m : Moved). m.broken) h.makes ∙ add_unbroken (check_bi minimum (drop p.cut l)).stroke bs (drop (p.cut + end_in p.found) l)
 
-  fits_by : (t : Bool) → p.broken ≡ t → (leb (length l) room && moved_fits room M) ≡ (leb (length l) room && leb p.left room)
+  fits_by : (t : code.Option ℕ) → p.broken ≡ t → (leb (length l) room && moved_fits room M) ≡ (leb (length l) room && leb p.left room)
   unfolding moved_fits joined_fits moved_as
-  fits_by true e =
+  fits_by (Some j) e =
       let w = last_stroke (check_bi minimum (drop p.cut l)).stroke b in
-      let n : M.broken ≡ 1 = ap (λ (m : Moved). m.broken) h.moves ∙ ap (λ (y : Bool). (moved_as y (make minimum l bs) w (drop p.join l)).broken) e in
+      let n : M.broken ≡ 1 = ap (λ (m : Moved). m.broken) h.moves ∙ ap (λ (y : code.Option ℕ). (moved_as y (make minimum l bs) w l).broken) e in
       ap (λ (y : ℕ). leb (length l) room && joined_fits y room M.left) n ∙ ap (λ (y : ℕ). leb (length l) room && leb y room) h.leaves
-  fits_by false e =
+  fits_by None e =
       let w = last_stroke (check_bi minimum (drop p.cut l)).stroke b in
-      let n : M.broken ≡ 0 = ap (λ (m : Moved). m.broken) h.moves ∙ ap (λ (y : Bool). (moved_as y (make minimum l bs) w (drop p.join l)).broken) e ∙ unbroken in
+      let n : M.broken ≡ 0 = ap (λ (m : Moved). m.broken) h.moves ∙ ap (λ (y : code.Option ℕ). (moved_as y (make minimum l bs) w l).broken) e ∙ unbroken in
       ap (λ (y : ℕ). leb (length l) room && joined_fits y room M.left) n ∙ both_fit (leb (length l) room) refl
     where
       both_fit : (t : Bool) → leb (length l) room ≡ t → (t && true) ≡ (t && leb p.left room)

@@ -5,5 +5,5 @@ mod merged_tail;
 mod plan;
 mod questions;
 
-pub use plan::{Last, Plan, plan_of, refused};
+pub use plan::{Last, Plan, bars_made, end_in, plan_of, refused};
 pub use questions::{Asked, ask};

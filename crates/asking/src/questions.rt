@@ -1,6 +1,6 @@
 // Questions 5 to 12 of a feed, asked of the stand, the lent stores and the bar. Nothing is written: a feed writes what the plan says once
 // all are answered "yes".
-ghost use Rattle.std.specs.Prelude.{◌≡◌, false, ◌+◌, ◌≤◌, ◌<◌, length, take};
+ghost use Rattle.std.specs.Prelude.{◌≡◌, IfSome, false, ◌+◌, ◌≤◌, ◌<◌, length, take};
 ghost use Rattle.bars.specs.Lists.{last};
 ghost use Rattle.bars.specs.Code.MergedBars.{merge_bars};
 ghost use Rattle.stores.specs.Stores.{raw_bars};
@@ -10,7 +10,7 @@ ghost use Rattle.check_bi.specs.Code.Windows.{NoFractals};
 ghost use Rattle.strokes.specs.StateRead.{settings_of, state_of};
 ghost use Rattle.strokes.specs.Lent.{before, stores_lent, stores_seen};
 ghost use Rattle.sound.specs.StandSound.{IsSound};
-ghost use Rattle.asking.specs.Code.FeedPlan.{plan_of, InView};
+ghost use Rattle.asking.specs.Code.FeedPlan.{plan_of, Long, InView};
 ghost use Rattle.asking.specs.Code.Asked.{AskedOf};
 ghost use Rattle.asking.specs.Code.AskSteps.{early_by, EarlyOf, mark_for, last_in, HasLast, InColumns, CanPlan, TriedWith, CanTry, TriedOf};
 ghost use Rattle.stores.specs.Lent.{raw_lent, raw_seen, merged_lent, merged_seen};
@@ -18,6 +18,7 @@ ghost use Rattle.stores.specs.Lent.{raw_lent, raw_seen, merged_lent, merged_seen
 use crate::merged_tail::{tail_again, tail_later};
 use crate::plan::{Last, Plan, no_plan, plan_of, refused};
 use bars::Bar;
+use check_bi::View;
 use machine::{Direction, Mark};
 use strokes::{Stand, last_stroke_within, total_bars};
 
@@ -67,7 +68,7 @@ fn ask_early(rt: &[i64], ri: &[i32], rp: &[[f64; 6]], count: usize, room: usize,
     ensures { EarlyOf (last (take count (raw_bars (raw_seen rt ri rp)))) count room b result }
 {
     if count == 0 {
-        let q = bars::question_of_bar(b);
+        let q = bars::number_of(bars::question_of_bar(b));
         let failed = room_for(q, true, count, room);
         return Early {
             failed,
@@ -77,7 +78,7 @@ fn ask_early(rt: &[i64], ri: &[i32], rp: &[[f64; 6]], count: usize, room: usize,
     let at = count - 1;
     let k = stores::read_bar(rt, ri, rp, at);
     let t = k.time;
-    let q = bars::question_after(true, t, b);
+    let q = bars::number_of(bars::question_after(Some(t), b));
     let later = t < b.time;
     let failed = room_for(q, later, count, room);
     Early { failed, later }
@@ -94,29 +95,23 @@ fn mark_for(d: Direction) -> Mark
 }
 
 // Of the last stroke that is kept, if there is one, what its break goes by.
-fn last_of(stand: Stand, st: &[i64], fp: &[[f64; 18]], used: usize) -> Last
+fn last_of(stand: Stand, st: &[i64], fp: &[[f64; 18]], used: usize) -> Option<Last>
     requires { HasLast stand st.now fp.now used }
-    ensures { (result ≡ last_in stand.strokes stand st.now fp.now) × (2 ≤ result.bars) × (result.bars < 4294967296) }
+    ensures value { result ≡ last_in stand.strokes stand st.now fp.now }
+    ensures long { IfSome result Long }
 {
     if stand.strokes == 0 {
-        return Last {
-            mark: Mark::D,
-            high: 0.0,
-            low: 0.0,
-            bars: 2,
-            time: 0,
-        };
+        return None;
     }
     let k = last_stroke_within(stand, st, fp, used);
-    let d = k.direction;
-    let mark = mark_for(d);
-    Last {
+    let mark = mark_for(k.direction);
+    Some(Last {
         mark,
         high: k.high,
         low: k.low,
         bars: k.bars,
         time: k.time,
-    }
+    })
 }
 
 // The plan where the unfinished bars after merging are the first `base` of the store and then the first `rows` of the tail.
@@ -136,12 +131,16 @@ fn plan_with(
     requires fact_1 { InColumns ut.now tt.now up.now tp.now base rows }
     requires fact_2 { HasLast stand st.now fp.now used }
     requires fact_3 { NoFractals up.now clear }
-    ensures { (result ≡ plan_of stand.strokes stand.minimum (last_in stand.strokes stand st.now fp.now) (candles (view base ut.now rows tt.now) (view base up.now rows tp.now))) × InView result (base + rows) }
+    ensures { (result ≡ plan_of stand.minimum (last_in stand.strokes stand st.now fp.now) (candles (view base ut.now rows tt.now) (view base up.now rows tp.now))) × InView result (base + rows) }
 {
-    let kept = stand.strokes;
-    let minimum = stand.minimum;
+    let view = View {
+        times: &ut[..base],
+        prices: &up[..base],
+        tail_times: &tt[..rows],
+        tail_prices: &tp[..rows],
+    };
     let last = last_of(stand, st, fp, used);
-    plan_of(ut, tt, up, tp, base, rows, kept, minimum, last, clear)
+    plan_of(view, last, stand.minimum, clear)
 }
 
 // What the feed of a later bar would do. Its tail holds two bars at most.
@@ -286,7 +285,7 @@ pub fn ask(
     let total = tried.total;
     let no = refused(plan, total, rooms.unfinished, used, rooms.strokes);
     Asked {
-        failed: no,
+        failed: bars::number_of(no),
         later,
         plan,
     }

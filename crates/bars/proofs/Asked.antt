@@ -1,11 +1,14 @@
 -- Laws that the questions' functions cite: the tests asked one after the other. Assumes nothing.
-use mathlib.Core.Path.{◌≡◌, refl}
+use mathlib.Core.Path.{◌≡◌, refl, ◌∙◌}
 use mathlib.Core.Bool.{Bool, true, false, ◌&&◌, cond}
 use mathlib.Core.Option.{none, some}
+use Rattle.std.specs.Prelude as Std
 use native.Mathlib.Omega.{arith}
 use lib.IntN.{ℤ}
-use lib.Signed.{le_z}
 use Rattle.bars.specs.declared.Bar.{Bar}
+use Rattle.bars.specs.declared.refusals.Question.{Question}
+use Rattle.bars.specs.declared.refusals.Question.TheVariants.{MinimumLength, MostStrokes, Rooms, Sound, Time, Prices, Volumes, LowAtMostHigh, NotEarlier, RawRoom, UnfinishedRoom, StrokeRoom, Exists, OutputRoom, Summary, Places, Record, Digits}
+use Rattle.bars.specs.Refusals.{number}
 use Rattle.bars.specs.Questions.{is_price, question5, question6, question7, question8, question9, first_no, first_failed, first_failed_after, not_earlier}
 
 -- ---- tests asked one after the other
@@ -78,33 +81,44 @@ late true true true true false h = refl
 
 -- ---- the last accepted bar by its time alone
 
-pub after_none : (t : ℤ) (b : Bar) → first_failed_after false t b ≡ first_failed none b
+pub after_none : (b : Bar) → first_failed_after Std.None b ≡ first_failed none b
 unfolding first_failed_after first_failed not_earlier question9
-after_none t b = refl
+after_none b = refl
 
-pub after-some : (r b : Bar) → first_failed_after true r.time b ≡ first_failed (some r) b
+pub after-some : (r b : Bar) → first_failed_after (Std.Some r.time) b ≡ first_failed (some r) b
 unfolding first_failed_after first_failed not_earlier question9
 after-some r b = refl
 
 -- a bar that fails one of 5 to 8 fails it before question 9 is asked
-pub after-failed : (any : Bool) (t : ℤ) (b : Bar) → (first_failed none b ≡ 0 → ⊥) → first_failed none b ≡ first_failed_after any t b
+pub after-failed : (last : Std.Option ℤ) (b : Bar) → (first_failed none b ≡ 0 → ⊥) → first_failed none b ≡ first_failed_after last b
 unfolding first_failed_after first_failed question9
-after-failed any t b h = early (question5 b) (question6 b) (question7 b) (question8 b) (not_earlier any t b) h
+after-failed last b h = early (question5 b) (question6 b) (question7 b) (question8 b) (not_earlier last b) h
 
 -- what question 9 adds to a bar that passes 5 to 8
-module _ (any : Bool) (t : ℤ) (b : Bar) (passed : first_failed none b ≡ 0) where
-  after : (v : Bool) → not_earlier any t b ≡ v → cond v 0 9 ≡ first_failed_after any t b
-  unfolding first_failed_after first_failed question9
-  after v e = rw (← e) (late (question5 b) (question6 b) (question7 b) (question8 b) (not_earlier any t b) passed)
+pub after : (last : Std.Option ℤ) (b : Bar) → first_failed none b ≡ 0 → (v : Bool) → not_earlier last b ≡ v → cond v 0 9 ≡ first_failed_after last b
+unfolding first_failed_after first_failed question9
+after last b passed v e = rw (← e) (late (question5 b) (question6 b) (question7 b) (question8 b) (not_earlier last b) passed)
 
-  pub after_first : any ≡ false → 0 ≡ first_failed_after any t b
-  unfolding not_earlier
-  after_first e = after true (rw e)
+-- no question has the number 0
+pub above : (q : Question) → number q ≡ 0 → ⊥
+above MinimumLength e = absurd (omega arith)
+above MostStrokes e = absurd (omega arith)
+above Rooms e = absurd (omega arith)
+above Sound e = absurd (omega arith)
+above Time e = absurd (omega arith)
+above Prices e = absurd (omega arith)
+above Volumes e = absurd (omega arith)
+above LowAtMostHigh e = absurd (omega arith)
+above NotEarlier e = absurd (omega arith)
+above RawRoom e = absurd (omega arith)
+above UnfinishedRoom e = absurd (omega arith)
+above StrokeRoom e = absurd (omega arith)
+above Exists e = absurd (omega arith)
+above OutputRoom e = absurd (omega arith)
+above Summary e = absurd (omega arith)
+above Places e = absurd (omega arith)
+above Record e = absurd (omega arith)
+above Digits e = absurd (omega arith)
 
-  pub after-later : any ≡ true → le_z t b.time ≡ true → 0 ≡ first_failed_after any t b
-  unfolding not_earlier
-  after-later e h = after true (rw (e, h))
-
-  pub after_earlier : any ≡ true → le_z t b.time ≡ false → 9 ≡ first_failed_after any t b
-  unfolding not_earlier
-  after_earlier e h = after false (rw (e, h))
+pub after_refused : (last : Std.Option ℤ) (b : Bar) (q : Question) → number q ≡ first_failed none b → number q ≡ first_failed_after last b
+after_refused last b q e = e ∙ after-failed last b (λ z. above q (e ∙ z))

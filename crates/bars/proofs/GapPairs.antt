@@ -1,46 +1,38 @@
 -- Laws that the gaps' functions cite: a scan for a covering bar, and the pair at a place among all pairs. Assumes nothing.
-use Prim.Native.Nat.{ℕ, zero, suc, ◌+◌, ◌-◌, ◌<◌, ◌≤◌}
+use Prim.Native.Nat.{min, ℕ, zero, suc, ◌+◌, ◌-◌, ◌<◌, ◌≤◌}
 use mathlib.Core.Path.{◌≡◌, refl, ap, sym, ◌∙◌}
-use mathlib.Core.Bool.{Bool, true, false}
+use mathlib.Core.Bool.{Bool, true, false, ◌||◌}
 use mathlib.Core.List.{List, [], ◌∷◌, map}
 use native.Mathlib.Numerals.{add-one}
 use native.Mathlib.Omega.{arith}
 use native.Mathlib.Nat.{le_of_suc-le-suc}
-use borrow.Author.Tests.{lt-ltb, le-ltb, le-leb, lt-leb}
-use lib.ListN.{length, take, drop, get_or, set, length-map, drop_of_length-le, get_or-map}
-use lib.Seq.{drop-cons, get_or-take, length-take-le}
+use lib.Dec.{leb}
+use borrow.Author.Tests.{leb-true, lt-ltb, le-ltb, le-leb, lt-leb}
+use lib.ListN.{length, take, drop, get_or, set, length-map, get_or-map}
+use lib.Seq.{get_or-take, length-take-le}
 use lib.Ieee.{Float, lt}
 use Rattle.bars.specs.declared.gaps.Gap.{Gap}
-use Rattle.bars.specs.declared.gaps.Gap.TheVariants.{NoGap}
-use Rattle.bars.specs.declared.gaps.GapAnswer.TheVariants.{Pair, Missing}
+use Rattle.bars.specs.declared.refusals.Question.TheVariants.{Exists}
+use Rattle.std.specs.Prelude as Std
+use Rattle.std.specs.List.{list_any}
 use Rattle.bars.specs.Lists.{some_of, copied}
-use Rattle.bars.specs.Gaps.{row_high, row_low, covers_up, covers_down, up_gap, down_gap, gap_if, gap_of, gaps_of, pair_if, gap_at, unless_short, gap_among, GapColumns, gaps_listed, written, list_if, list_gaps}
-use Rattle.bars.proofs.Moves.{copy_turn}
+use Rattle.bars.specs.Gaps.{NoGap, row_high, row_low, covers_up, covers_down, up_gap, down_gap, gap_if, gap_of, gaps_of, pair_if, gap_at, unless_short, gap_among, GapColumns, gaps_listed, written, list_if, list_gaps}
+use Rattle.bars.proofs.Moves.{copy_turn, run_is}
 
--- ---- a scan of the first n from a place on
+-- ---- whether a bar covers
 
-module _ {A : Type 0} (p : A → Bool) (l : List A) (n j : ℕ) where
-  cut : (z : A) → n ≤ length l → j < n → drop j (take n l) ≡ get_or l j z ∷ drop (j + 1) (take n l)
-  cut z room h =
-      let w : j < length (take n l) = rw (length-take-le n l room) h in
-      rw (add-one, ← get_or-take n l j z h) (drop-cons (take n l) j z w)
-
-  -- the one at j passes, it fails, and there is none
-  pub found : (z : A) → n ≤ length l → j < n → p (get_or l j z) ≡ true → true ≡ some_of p (drop j (take n l))
-  unfolding some_of
-  found z room h q = rw (cut z room h, q)
-
-  pub passed : (z : A) → n ≤ length l → j < n → p (get_or l j z) ≡ false → some_of p (drop (j + 1) (take n l)) ≡ some_of p (drop j (take n l))
-  unfolding some_of
-  passed z room h q = sym (ap (some_of p) (cut z room h) ∙ rw q)
-
-  pub ended : n ≤ length l → n ≤ j → false ≡ some_of p (drop j (take n l))
-  unfolding some_of
-  ended room h = let w : length (take n l) ≤ j = rw (length-take-le n l room) h in rw (drop_of_length-le (take n l) w)
+pub any_some : {A : Type 0} (p : A → Bool) (l : List A) → list_any p l ≡ some_of p l
+unfolding some_of
+any_some p [] = refl
+any_some p (a ∷ l) = ap (p a ||◌) (any_some p l)
 
 -- ---- one pair
 
-module _ (d : ℕ) (a b : List Float) (right : List (List Float)) (g : Gap) (c : Bool) where
+-- the rows from a place on, lent of the first n
+pub lent_from : {A : Type 0} (l : List A) (from n : ℕ) → from ≤ n → take (n - from) (drop from l) ≡ drop from (take n l)
+lent_from l from n h = let e : from + (n - from) ≡ n = omega arith in run_is l from (n - from) ∙ ap (λ (k : ℕ). drop from (take k l)) e
+
+module _ (d : ℕ) (a b : List Float) (right : List (List Float)) (g : Std.Option Gap) (c : Bool) where
   pub gap_up : lt (row_high a) (row_low b) ≡ true → c ≡ some_of (covers_up a) right → g ≡ up_gap d (row_high a) (row_low b) c → g ≡ gap_of d a b right
   unfolding gap_of gap_if
   gap_up p q s = s ∙ rw (p, q)
@@ -77,22 +69,22 @@ module _ (d : ℕ) (ps : List (List Float)) (n i : ℕ) where
       let k : i < n = omega arith in
       rw (add-one, ← get_or-take n ps i [] k, ← get_or-take n ps (suc i) [] (omega arith)) (at_pair d (take n ps) i w)
 
-  pub among_short : length ps < n → Missing ≡ gap_among d ps n i
+  pub among_short : length ps < n → Std.Err Exists ≡ gap_among d ps n i
   unfolding gap_among unless_short
   among_short h = rw (lt-leb n (length ps) h)
 
-  pub among_none : n ≤ length ps → n ≤ i + 1 → Missing ≡ gap_among d ps n i
+  pub among_none : n ≤ length ps → n ≤ i + 1 → Std.Err Exists ≡ gap_among d ps n i
   unfolding gap_among unless_short gap_at pair_if
   among_none room h = rw (le-leb n (length ps) room, length-take-le n ps room, le-ltb (i + 1) n h)
 
-  pub among_pair : (g : Gap) → n ≤ length ps → i + 1 < n → g ≡ gap_of d (get_or ps i []) (get_or ps (i + 1) []) (drop (i + 1) (take n ps)) → Pair g ≡ gap_among d ps n i
+  pub among_pair : (g : Std.Option Gap) → n ≤ length ps → i + 1 < n → g ≡ gap_of d (get_or ps i []) (get_or ps (i + 1) []) (drop (i + 1) (take n ps)) → Std.Ok g ≡ gap_among d ps n i
   unfolding gap_among unless_short gap_at pair_if
-  among_pair g room h e = rw (le-leb n (length ps) room, length-take-le n ps room, lt-ltb (i + 1) n h) (ap Pair (e ∙ sym (pair_among room h)))
+  among_pair g room h e = rw (le-leb n (length ps) room, length-take-le n ps room, lt-ltb (i + 1) n h) (ap Std.Ok (e ∙ sym (pair_among room h)))
 
 -- ---- all pairs in a column
 
 -- one more of the gaps' numbers, values or covers, at its place
-pub column_turn : {B : Type 0} (f : Gap → B) (places : ℕ) (ps : List (List Float)) (n i : ℕ) (d l : List B) (v : B) (g : Gap) → n ≤ length ps → i + 1 < n → i < length d
+pub column_turn : {B : Type 0} (f : Std.Option Gap → B) (places : ℕ) (ps : List (List Float)) (n i : ℕ) (d l : List B) (v : B) (g : Std.Option Gap) → n ≤ length ps → i + 1 < n → i < length d
     → g ≡ gap_of places (get_or ps i []) (get_or ps (i + 1) []) (drop (i + 1) (take n ps)) → v ≡ f g → l ≡ copied d 0 (map f (gaps_of places (take n ps))) 0 i
     → set l i v ≡ copied d 0 (map f (gaps_of places (take n ps))) 0 (i + 1)
 column_turn f places ps n i d l v g room h k e q s =
@@ -110,18 +102,19 @@ module _ (d : ℕ) (ps : List (List Float)) (n : ℕ) (s : GapColumns) where
   listed_4 h = rw (lt-leb n (length ps) h)
 
   module _ (room : n ≤ length ps) where
-    pub listed_14_kinds : length s.kinds < n - 1 → gaps_listed 14 s ≡ list_gaps d ps n s
-    unfolding list_gaps list_if
-    listed_14_kinds h = rw (le-leb n (length ps) room, lt-leb (n - 1) (length s.kinds) h)
+    full : (k v c : Bool) → (k ≡ true → v ≡ true → c ≡ true → ⊥) → gaps_listed 14 s ≡ list_if true k v c d ps n s
+    unfolding list_if
+    full false v c h = refl
+    full true false c h = refl
+    full true true false h = refl
+    full true true true h = absurd (h refl refl refl)
 
-    pub listed_14_values : n - 1 ≤ length s.kinds → length s.values < n - 1 → gaps_listed 14 s ≡ list_gaps d ps n s
-    unfolding list_gaps list_if
-    listed_14_values a h = rw (le-leb n (length ps) room, le-leb (n - 1) (length s.kinds) a, lt-leb (n - 1) (length s.values) h)
-
-    pub listed_14_covered : n - 1 ≤ length s.kinds → n - 1 ≤ length s.values → length s.covered < n - 1 → gaps_listed 14 s ≡ list_gaps d ps n s
-    unfolding list_gaps list_if
-    listed_14_covered a b h =
-        rw (le-leb n (length ps) room, le-leb (n - 1) (length s.kinds) a, le-leb (n - 1) (length s.values) b, lt-leb (n - 1) (length s.covered) h)
+    pub listed_14 : min (min (length s.kinds) (length s.values)) (length s.covered) < n - 1 → gaps_listed 14 s ≡ list_gaps d ps n s
+    unfolding list_gaps
+    listed_14 h =
+        rw (le-leb n (length ps) room)
+        (full (leb (n - 1) (length s.kinds)) (leb (n - 1) (length s.values)) (leb (n - 1) (length s.covered))
+        (λ x y z. omega (arith, leb-true (n - 1) (length s.kinds) x, leb-true (n - 1) (length s.values) y, leb-true (n - 1) (length s.covered) z)))
 
     pub listed_0 : (t : GapColumns) → n - 1 ≤ length s.kinds → n - 1 ≤ length s.values → n - 1 ≤ length s.covered
         → t ≡ written (gaps_of d (take n ps)) (n - 1) s → gaps_listed 0 t ≡ list_gaps d ps n s

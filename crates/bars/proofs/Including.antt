@@ -1,14 +1,16 @@
 -- Laws of remove_include: what each way through it answers, and that the bars are the same with the elements and without them. Assumes nothing.
-use Prim.Native.Nat.{ℕ, ◌+◌, ◌<◌, ◌≤◌}
+use Prim.Native.Nat.{ℕ, zero, suc, ◌+◌, ◌<◌}
 use mathlib.Core.Path.{◌≡◌, refl, ap, ◌∙◌}
 use mathlib.Core.Bool.{Bool, true, false, ◌&&◌, cond}
-use mathlib.Core.List.{[], ◌∷◌, ◌++◌, map, head-eq_of_cons-eq}
+use Rattle.std.proofs.Common.{min}
+use mathlib.Core.List.{List, [], ◌∷◌, ◌++◌, map, head-eq_of_cons-eq}
 use native.Mathlib.Omega.{arith}
 use native.Mathlib.Numerals.{add-one}
-use lib.ListN.{length, take, set, length-take}
-use lib.Seq.{take-suc-set, take-take, take_all}
+use lib.ListN.{length, take, set}
+use lib.Seq.{take-suc-set}
 use lib.IntN.{ℤ}
 use lib.Ieee.{Float, binary64, lt, le, add}
+use Rattle.std.specs.Prelude as Std
 use Rattle.arith.specs.Order.{max_of, min_of}
 use Rattle.bars.specs.declared.Bar.{Bar}
 use Rattle.bars.specs.declared.NewBar.{NewBar}
@@ -30,38 +32,32 @@ module _ (a b : Bar) where
 -- ---- k2 and k3 as one bar
 
 -- open and close, by whether k3 fell
-module _ (k2 k3 : Bar) (t t' : ℤ) (i' : ℤ) (h l : Float) (time : t' ≡ t) (id : i' ≡ k2.id) where
-  pub fell : lt k3.close k3.«open» ≡ true
-      → ◌≡◌ {A = Bar} (record { time = t'; id = i'; «open» = h; close = l; high = h; low = l; vol = add binary64 k2.vol k3.vol; amount = add binary64 k2.amount k3.amount }) (united_bar k2 k3 t h l)
-  unfolding united_bar
-  fell p = rw (time, id, p)
-
-  pub rose : lt k3.close k3.«open» ≡ false
-      → ◌≡◌ {A = Bar} (record { time = t'; id = i'; «open» = l; close = h; high = h; low = l; vol = add binary64 k2.vol k3.vol; amount = add binary64 k2.amount k3.amount }) (united_bar k2 k3 t h l)
-  unfolding united_bar
-  rose p = rw (time, id, p)
+pub united_is : (k2 k3 : Bar) (t t' i' : ℤ) (h l o c : Float) → t' ≡ t → i' ≡ k2.id → o ≡ cond (lt k3.close k3.«open») h l → c ≡ cond (lt k3.close k3.«open») l h
+    → ◌≡◌ {A = Bar} (record { time = t'; id = i'; «open» = o; close = c; high = h; low = l; vol = add binary64 k2.vol k3.vol; amount = add binary64 k2.amount k3.amount }) (united_bar k2 k3 t h l)
+unfolding united_bar
+united_is k2 k3 t t' i' h l o c time id p q = rw (time, id, p, q)
 
 -- the time, by the test that each direction asks
 module _ (k2 k3 b : Bar) (h l : Float) (t : ℤ) (is : b ≡ united_bar k2 k3 t h l) where
-  pub up_is : (v : Bool) → lt k3.high k2.high ≡ v → t ≡ cond v k2.time k3.time → h ≡ max_of k2.high k3.high → l ≡ max_of k2.low k3.low → b ≡ merged_up_bar k2 k3
+  pub up_is : t ≡ cond (lt k3.high k2.high) k2.time k3.time → h ≡ max_of k2.high k3.high → l ≡ max_of k2.low k3.low → b ≡ merged_up_bar k2 k3
   unfolding merged_up_bar
-  up_is v p q r s = is ∙ rw (p, q, r, s)
+  up_is q r s = is ∙ rw (q, r, s)
 
-  pub down_is : (v : Bool) → lt k2.low k3.low ≡ v → t ≡ cond v k2.time k3.time → h ≡ min_of k2.high k3.high → l ≡ min_of k2.low k3.low → b ≡ merged_down_bar k2 k3
+  pub down_is : t ≡ cond (lt k2.low k3.low) k2.time k3.time → h ≡ min_of k2.high k3.high → l ≡ min_of k2.low k3.low → b ≡ merged_down_bar k2 k3
   unfolding merged_down_bar
-  down_is v p q r s = is ∙ rw (p, q, r, s)
+  down_is q r s = is ∙ rw (q, r, s)
 
 module _ (h : Float) (k2 k3 : Bar) where
-  pub included_up : (k : Bar) → k ≡ merged_up_bar k2 k3 → contains k2 k3 ≡ true → lt h k2.high ≡ true → in_place_of k2 true k ≡ remove_include_bar h k2 k3
+  pub included_up : (k : Bar) → k ≡ merged_up_bar k2 k3 → contains k2 k3 ≡ true → lt h k2.high ≡ true → in_place_of k2 (Std.Some k) k3 ≡ remove_include_bar h k2 k3
   unfolding in_place_of remove_include_bar settle_bar
   included_up k e p q = rw (p, q, e)
 
   pub included_down : (k : Bar) → k ≡ merged_down_bar k2 k3 → contains k2 k3 ≡ true → lt h k2.high ≡ false → lt k2.high h ≡ true
-      → in_place_of k2 true k ≡ remove_include_bar h k2 k3
+      → in_place_of k2 (Std.Some k) k3 ≡ remove_include_bar h k2 k3
   unfolding in_place_of remove_include_bar settle_bar
   included_down k e p q r = rw (p, q, r, e)
 
-  pub included_level : contains k2 k3 ≡ true → lt h k2.high ≡ false → lt k2.high h ≡ false → in_place_of k2 false k3 ≡ remove_include_bar h k2 k3
+  pub included_level : contains k2 k3 ≡ true → lt h k2.high ≡ false → lt k2.high h ≡ false → in_place_of k2 Std.None k3 ≡ remove_include_bar h k2 k3
   unfolding in_place_of remove_include_bar settle_bar
   included_level p q r = rw (p, q, r)
 
@@ -71,25 +67,24 @@ module _ (h : Float) (k2 k3 : Bar) where
   apart false true = refl
   apart false false = refl
 
-  pub included_apart : contains k2 k3 ≡ false → in_place_of k2 false k3 ≡ remove_include_bar h k2 k3
+  pub included_apart : contains k2 k3 ≡ false → in_place_of k2 Std.None k3 ≡ remove_include_bar h k2 k3
   unfolding in_place_of remove_include_bar
   included_apart p = rw p (apart (lt h k2.high) (lt k2.high h))
 
 -- ---- elements
 
--- k2's first 100 elements and one more, in the places of a NewBar: where fewer than 100 are in use, and else
-module _ (b : Bar) (k : NewBar) (t u : ℤ) (same : u ≡ t) where
-  pub one_more : k.count < 100 → k.count < length k.elements
-      → merged_of (record { bar = b; count = k.count + 1; elements = set k.elements k.count u }) ≡ with_element b (merged_of k) t
-  unfolding merged_of with_element
-  one_more few room =
-      let e : take 100 (take k.count k.elements) ≡ take k.count k.elements = take_all 100 (take k.count k.elements) (simp length-take (omega arith)) in
-      rw (add-one, take-suc-set k.elements k.count u room, e, same)
+-- a list cut to n and then to m
+take_both : {A : Type 0} (m n : ℕ) (l : List A) → take m (take n l) ≡ take (min n m) l
+take_both zero n l = let e : min n 0 ≡ 0 = omega arith in rw e refl
+take_both (suc m) zero l = let e : min 0 (suc m) ≡ 0 = omega arith in rw e refl
+take_both (suc m) (suc n) [] = let e : min (suc n) (suc m) ≡ suc (min n m) = omega arith in rw e refl
+take_both (suc m) (suc n) (a ∷ l) = let e : min (suc n) (suc m) ≡ suc (min n m) = omega arith in rw e (ap (a ∷◌) (take_both m n l))
 
-  pub one_last : 100 ≤ k.count → 100 < length k.elements
-      → merged_of (record { bar = b; count = 101; elements = set k.elements 100 u }) ≡ with_element b (merged_of k) t
-  unfolding merged_of with_element
-  one_last many room = rw (take-suc-set k.elements 100 u room, take-take 100 k.count k.elements many, same)
+-- k2's first 100 elements and one more, in the places of a NewBar
+pub one_more : (b : Bar) (k : NewBar) (t u : ℤ) (n : ℕ) → u ≡ t → n ≡ min k.count 100 → n < length k.elements
+    → merged_of (record { bar = b; count = n + 1; elements = set k.elements n u }) ≡ with_element b (merged_of k) t
+unfolding merged_of with_element
+one_more b k t u n same e room = rw (add-one, take-suc-set k.elements n u room, same, e, take_both 100 k.count k.elements)
 
 module _ (k2 : Merged) (k3 : Bar) where
   -- merged without elements is merged with them
@@ -111,17 +106,14 @@ module _ (k2 : Merged) (k3 : Bar) where
   settle-own false true false a b e = refl
   settle-own false false false a b e = refl
 
-  pub included_elements : (h : Float) (b : Bar) (m : Bool) → m ≡ true → in_place_of k2.bar m b ≡ remove_include_bar h k2.bar k3
-      → (k : Merged) → k ≡ with_element b k2 k3.time → in_place_of k2 true k ≡ remove_include_after h k2 k3
+  pub included_elements : (h : Float) (b : Bar) → in_place_of k2.bar (Std.Some b) k3 ≡ remove_include_bar h k2.bar k3
+      → (k : Merged) → k ≡ with_element b k2 k3.time → in_place_of k2 (Std.Some k) (own k3) ≡ remove_include_after h k2 k3
   unfolding in_place_of remove_include_bar remove_include_after
-  included_elements h b m t e k f =
-      rw f (settle-merged (lt h k2.bar.high) (lt k2.bar.high h) (contains k2.bar k3) b (rw t at e))
+  included_elements h b e k f = rw f (settle-merged (lt h k2.bar.high) (lt k2.bar.high h) (contains k2.bar k3) b e)
 
-  pub included_own : (h : Float) (b : Bar) (m : Bool) → m ≡ false → in_place_of k2.bar m b ≡ remove_include_bar h k2.bar k3
-      → (k : Merged) → k ≡ own k3 → in_place_of k2 false k ≡ remove_include_after h k2 k3
+  pub included_own : (h : Float) → in_place_of k2.bar Std.None k3 ≡ remove_include_bar h k2.bar k3 → in_place_of k2 Std.None (own k3) ≡ remove_include_after h k2 k3
   unfolding in_place_of remove_include_bar remove_include_after
-  included_own h b m t e k f =
-      rw f (settle-own (lt h k2.bar.high) (lt k2.bar.high h) (contains k2.bar k3) k2.bar b (rw t at e))
+  included_own h e = settle-own (lt h k2.bar.high) (lt k2.bar.high h) (contains k2.bar k3) k2.bar k3 e
 
 -- ---- removeInclude's bars
 

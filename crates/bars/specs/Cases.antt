@@ -1,15 +1,15 @@
 -- Marked instances 1, 2, 3, 4 and 12 of document 01, gaps at and below zero, and bounds of the questions, computed.
 use Rattle.std.specs.Prelude.{ℕ, suc, zero, ◌≡◌, refl, true, false, List, [], ◌∷◌, ◌++◌, map, ℤ, pos, negsuc, Float}
+use Rattle.std.specs.Prelude as Std
 use Rattle.std.proofs.Math.Option.{none, some}
 use Rattle.std.specs.Float.{nan, inf, fin, binary64}
 use Rattle.std.specs.Float.Ieee.{neg, round, of_int}
 use Rattle.bars.specs.declared.Bar.{Bar}
 use Rattle.bars.specs.declared.gaps.Gap.{Gap}
-use Rattle.bars.specs.declared.gaps.Gap.TheVariants.{NoGap, Up, Down, UpNoRatio, DownNoRatio}
 use Rattle.bars.specs.Bars.{Merged, own, row_of}
 use Rattle.bars.specs.Questions.{first_failed}
 use Rattle.bars.specs.Merging.{remove_include, merge_all}
-use Rattle.bars.specs.Gaps.{gaps_of, gap_number, gap_values, gap_covered}
+use Rattle.bars.specs.Gaps.{NoGap, Up, Down, UpNoRatio, DownNoRatio, gaps_of, gap_number, gap_values, gap_covered}
 
 abbrev num : ℕ → Float
 unfolding of_int
@@ -87,7 +87,7 @@ deep = refl
 
 -- 12. Gap 10/8, 12/11, then 11/10: up, ratio 0.1, open. Low 9.5 instead: covered
 -- (0.1 is 3602879701896397 / 2 ^ 55, and 9.5 is 19 / 2)
-gaps : Float → List Gap
+gaps : Float → List (Std.Option Gap)
 unfolding bar row_of gaps_of of_int
 gaps l = gaps_of 4 (row_of (bar 1 (num 10) (num 8)) ∷ row_of (bar 2 (num 12) (num 11)) ∷ row_of (bar 3 (num 11) l) ∷ [])
 
@@ -109,7 +109,7 @@ unfolding bar row_of gaps_of of_int round
 ratio_to_6 = refl
 
 -- Two bars, the first one's high and low and then the second one's, and what the pair is. An up gap divides by the first high, a down gap by the second.
-pair_of : Float → Float → Float → Float → List Gap
+pair_of : Float → Float → Float → Float → List (Std.Option Gap)
 unfolding bar row_of gaps_of of_int
 pair_of h1 l1 h2 l2 = gaps_of 4 (row_of (bar 1 h1 l1) ∷ row_of (bar 2 h2 l2) ∷ [])
 

@@ -1,5 +1,6 @@
 -- Questions 5 to 9 of document 01, question 6 as document 02's third request has it, as tests of a bar: true is "yes". Definitions only.
 use Rattle.std.specs.Prelude.{ℕ, Bool, true, false, not, ◌&&◌, ◌||◌, ℤ, pos, negsuc, Float}
+use Rattle.std.specs.Prelude as Std
 use Rattle.std.proofs.Math.Option.{Option, none, some}
 use Rattle.std.specs.Int.Signed.{le_z}
 use Rattle.std.specs.Float.{nan, inf, fin}
@@ -100,11 +101,11 @@ unfoldable pub first_failed : Option Bar → Bar → ℕ
 unfolding first_no question5 question6 question7 question8 question9
 first_failed o b = first_no (question5 b) (question6 b) (question7 b) (question8 b) (question9 o b)
 
--- question 9 by the last accepted bar's time alone: whether there is such a bar, and its time
-unfoldable pub not_earlier : Bool → ℤ → Bar → Bool
-not_earlier false t b = true
-not_earlier true t b = le_z t b.time
+-- question 9 by the last accepted bar's time alone, if there is such a bar
+unfoldable pub not_earlier : Std.Option ℤ → Bar → Bool
+not_earlier Std.None b = true
+not_earlier (Std.Some t) b = le_z t b.time
 
-unfoldable pub first_failed_after : Bool → ℤ → Bar → ℕ
+unfoldable pub first_failed_after : Std.Option ℤ → Bar → ℕ
 unfolding first_no question5 question6 question7 question8 not_earlier
-first_failed_after any t b = first_no (question5 b) (question6 b) (question7 b) (question8 b) (not_earlier any t b)
+first_failed_after last b = first_no (question5 b) (question6 b) (question7 b) (question8 b) (not_earlier last b)

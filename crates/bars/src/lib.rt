@@ -4,13 +4,15 @@
 mod gaps;
 mod merging;
 mod questions;
+mod refusals;
 
-pub use gaps::{Gap, GapAnswer, gap_among, list_gaps, pairs};
-pub use merging::{Included, IncludedBar, new_from_raw, remove_include, remove_include_bar};
+pub use gaps::{Gap, Side, gap_among, list_gaps, pairs};
+pub use merging::{new_from_raw, remove_include, remove_include_bar};
 pub use questions::{
-    both, from_zero, is_price, is_volume, low_at_most_high, prices_in_range, question_after,
+    from_zero, is_price, is_volume, low_at_most_high, prices_in_range, question_after,
     question_of_bar, time_in_range, volumes_in_range,
 };
+pub use refusals::{Question, number_of};
 
 // RawBar of the source: one bar as it is fed. Time is in seconds.
 #[derive(Clone, Copy)]
@@ -27,6 +29,7 @@ pub struct Bar {
 
 // NewBar of the source, document 01's merged bar: a bar, and the times of the raw bars that were
 // merged into it, its elements. The first `count` places of `elements` are in use.
+// Kept: an array of a fixed length with the count beside, since a merged bar is a value without heap.
 #[derive(Clone, Copy)]
 pub struct NewBar {
     pub bar: Bar,

@@ -1,145 +1,77 @@
 // A line's question and its answer.
-use bar_lines::{Read, bar_at, flag, put_bar, space, spaced_float};
-use bars::{Bar, Gap, GapAnswer, NewBar};
-use lines::{Buffer, Buffered, put};
+use bar_lines::{BarText, GapText, read_bar};
+use bars::{Bar, NewBar};
+use lines::{Output, Unanswered, Words, words_behind};
+use std::alloc::Global;
+use std::fmt;
+use std::io::{self, Write};
 
-pub fn bad(out: &mut Buffer, o: Buffered) -> Buffered {
-    put(out, o, b"bad line\n")
-}
+// A merged bar's elements, a space before each.
+#[derive(Clone, Copy)]
+struct Elements<'a>(&'a NewBar);
 
-fn put_elements(out: &mut Buffer, o: Buffered, k: NewBar) -> Buffered {
-    let elements = k.elements;
-    let count = k.count;
-    let mut now = put(out, o, b" :");
-    let mut i: usize = 0;
-    while i < 101 {
-        if count <= i {
-            return now;
+impl<'a> fmt::Display for Elements<'a> {
+    fn fmt<W: fmt::Write>(&self, f: &mut fmt::Formatter<W>) -> fmt::Result {
+        f.write_str(" :")?;
+        for time in self.0.elements.iter().take(self.0.count) {
+            write!(f, " {time}")?;
         }
-        now = space(out, now);
-        now = lines::put_whole(out, now, elements[i]);
-        i += 1;
-    }
-    now
-}
-
-fn remove_include(out: &mut Buffer, o: Buffered, k1: Bar, k2: Bar, k3: Bar) -> Buffered {
-    let r = bars::remove_include(k1.high, bars::new_from_raw(k2), k3);
-    let o = flag(out, o, r.merged);
-    let o = space(out, o);
-    let k = r.bar;
-    let o = put_bar(out, o, k.bar);
-    let o = put_elements(out, o, k);
-    put(out, o, b"\n")
-}
-
-fn ask_remove_include(out: &mut Buffer, o: Buffered, line: &[u8], at: usize) -> Buffered {
-    let Read::At(k1, a) = bar_at(line, at) else {
-        return bad(out, o);
-    };
-    let Read::At(k2, b) = bar_at(line, a) else {
-        return bad(out, o);
-    };
-    let Read::At(k3, c) = bar_at(line, b) else {
-        return bad(out, o);
-    };
-    if c < line.len() {
-        return bad(out, o);
-    }
-    remove_include(out, o, k1, k2, k3)
-}
-
-fn put_edges(out: &mut Buffer, o: Buffered, low: f64, high: f64) -> Buffered {
-    let o = spaced_float(out, o, low);
-    spaced_float(out, o, high)
-}
-
-fn put_covered(out: &mut Buffer, o: Buffered, covered: bool) -> Buffered {
-    let o = space(out, o);
-    flag(out, o, covered)
-}
-
-fn put_with_ratio(
-    out: &mut Buffer,
-    o: Buffered,
-    low: f64,
-    high: f64,
-    ratio: f64,
-    covered: bool,
-) -> Buffered {
-    let o = put_edges(out, o, low, high);
-    let o = spaced_float(out, o, ratio);
-    put_covered(out, o, covered)
-}
-
-fn put_no_ratio(out: &mut Buffer, o: Buffered, low: f64, high: f64, covered: bool) -> Buffered {
-    let o = put_edges(out, o, low, high);
-    let o = put(out, o, b" none");
-    put_covered(out, o, covered)
-}
-
-fn put_gap(out: &mut Buffer, o: Buffered, g: Gap) -> Buffered {
-    match g {
-        Gap::NoGap => put(out, o, b"none"),
-        Gap::Up(low, high, ratio, covered) => {
-            let o = put(out, o, b"up");
-            put_with_ratio(out, o, low, high, ratio, covered)
-        }
-        Gap::Down(low, high, ratio, covered) => {
-            let o = put(out, o, b"down");
-            put_with_ratio(out, o, low, high, ratio, covered)
-        }
-        Gap::UpNoRatio(low, high, covered) => {
-            let o = put(out, o, b"up");
-            put_no_ratio(out, o, low, high, covered)
-        }
-        Gap::DownNoRatio(low, high, covered) => {
-            let o = put(out, o, b"down");
-            put_no_ratio(out, o, low, high, covered)
-        }
+        Ok(())
     }
 }
 
-fn put_answer(out: &mut Buffer, o: Buffered, a: GapAnswer) -> Buffered {
-    match a {
-        GapAnswer::Pair(g) => put_gap(out, o, g),
-        GapAnswer::Missing => put(out, o, b"missing"),
+// The next bar is merged into the second of these, behind the first.
+fn remove_include(out: &mut Output, k1: Bar, k2: Bar, k3: Bar) -> io::Result<()> {
+    let merged_bar = bars::remove_include(k1.high, bars::new_from_raw(k2), k3);
+    let merged = u8::from(merged_bar.is_some());
+    let k = merged_bar.unwrap_or(bars::new_from_raw(k3));
+    writeln!(out, "{merged} {}{}", BarText(k.bar), Elements(&k))
+}
+
+// Three bars, and nothing behind them.
+fn three_bars(words: &mut Words<'_>) -> Option<(Bar, Bar, Bar)> {
+    let bars = (read_bar(words)?, read_bar(words)?, read_bar(words)?);
+    match words.next() {
+        None => Some(bars),
+        Some(_) => None,
     }
 }
 
-// The pairs of the first n rows.
-fn put_gaps(out: &mut Buffer, o: Buffered, prices: &[[f64; 6]], n: usize) -> Buffered {
+// The rows of prices of the bars behind a line's name, fewer than 64.
+fn prices_of(
+    alloc: Global,
+    line: &str,
+    words: &mut Words<'_>,
+) -> Result<Vec<[f64; 6]>, Unanswered> {
+    let behind = words_behind(line);
+    if behind % 8 != 0 || 64 <= behind / 8 {
+        return Err(Unanswered::BadLine);
+    }
+    let mut prices = Vec::new(alloc);
+    for _ in 0..behind / 8 {
+        let b = read_bar(words).ok_or(Unanswered::BadLine)?;
+        prices.push([b.open, b.close, b.high, b.low, b.vol, b.amount])?;
+    }
+    Ok(prices)
+}
+
+// The pairs of neighbours among these rows.
+fn gaps(out: &mut Output, prices: &[[f64; 6]]) -> io::Result<()> {
+    let n = prices.len();
     if n < 2 {
-        return put(out, o, b"empty\n");
+        return writeln!(out, "empty");
     }
-    let mut now = put_answer(out, o, bars::gap_among(4, prices, n, 0));
-    let m = n - 1;
-    let mut i: usize = 1;
-    while i < m {
-        now = put(out, now, b" | ");
-        now = put_answer(out, now, bars::gap_among(4, prices, n, i));
-        i += 1;
-    }
-    put(out, now, b"\n")
-}
-
-// A line of more than 64 bars is not taken.
-fn ask_gaps(out: &mut Buffer, o: Buffered, line: &[u8], from: usize) -> Buffered {
-    let mut prices = [[0f64; 6]; 64];
-    let mut n: usize = 0;
-    let mut at = from;
-    while n < 64 {
-        if line.len() <= at {
-            return put_gaps(out, o, &prices, n);
+    for i in 0..n - 1 {
+        if 0 < i {
+            write!(out, " | ")?;
         }
-        let Read::At(b, next) = bar_at(line, at) else {
-            return bad(out, o);
-        };
-        prices[n] = [b.open, b.close, b.high, b.low, b.vol, b.amount];
-        n += 1;
-        at = next;
+        match bars::gap_among(4, prices, n, i) {
+            Ok(Some(gap)) => write!(out, "{}", GapText(gap))?,
+            Ok(None) => write!(out, "none")?,
+            Err(_) => write!(out, "missing")?,
+        }
     }
-    bad(out, o)
+    writeln!(out)
 }
 
 // A bar of this time, 12/9.
@@ -159,25 +91,16 @@ fn bar_12_9(time: i64) -> Bar {
 // Behind a bar with high 10, bars 12/9 of times 1 to 102 become one bar.
 fn deep_bar() -> NewBar {
     let mut k = bars::new_from_raw(bar_12_9(1));
-    let mut i: u8 = 2;
-    while i < 103 {
-        let r = bars::remove_include(10.0, k, bar_12_9(i as i64));
-        k = r.bar;
-        i += 1;
+    for time in 2..103 {
+        let b = bar_12_9(time);
+        k = bars::remove_include(10.0, k, b).unwrap_or(bars::new_from_raw(b));
     }
     k
 }
 
-// Its elements.
-fn deep(out: &mut Buffer, o: Buffered) -> Buffered {
-    let o = put(out, o, b"deep");
-    let o = put_elements(out, o, deep_bar());
-    put(out, o, b"\n")
-}
-
-// The first question that a bar of this price fails.
-fn ask_price(out: &mut Buffer, o: Buffered, x: f64) -> Buffered {
-    let b = Bar {
+// The number of the first question that a bar of this price fails.
+fn ask_price(x: f64) -> u64 {
+    let asked = bars::question_of_bar(Bar {
         time: 1,
         id: 0,
         open: x,
@@ -186,35 +109,36 @@ fn ask_price(out: &mut Buffer, o: Buffered, x: f64) -> Buffered {
         low: x,
         vol: 1.0,
         amount: 1.0,
-    };
-    let o = space(out, o);
-    lines::put_decimal(out, o, bars::question_of_bar(b))
+    });
+    bars::number_of(asked)
 }
 
-// 2^30, and the next float.
-fn price(out: &mut Buffer, o: Buffered) -> Buffered {
-    let o = put(out, o, b"price");
-    let o = ask_price(out, o, 1073741824.0);
-    let o = ask_price(out, o, lines::float_of(4742290407621132289));
-    put(out, o, b"\n")
+// Writes the answer to a line. A space behind its last word is passed over.
+pub fn answer(out: &mut Output, alloc: Global, whole: &str) -> Result<(), Unanswered> {
+    let line = whole.strip_suffix(' ').unwrap_or(whole);
+    let mut words = line.split(' ');
+    match words.next() {
+        Some("remove_include") => {
+            let (k1, k2, k3) = three_bars(&mut words).ok_or(Unanswered::BadLine)?;
+            remove_include(out, k1, k2, k3)?;
+        }
+        Some("gaps") => gaps(out, &prices_of(alloc, line, &mut words)?)?,
+        Some("deep") => writeln!(out, "deep{}", Elements(&deep_bar()))?,
+        // 2^30, and the next float.
+        Some("price") => {
+            let first = ask_price(1073741824.0);
+            let second = ask_price(lines::float_of(4742290407621132289));
+            writeln!(out, "price {first} {second}")?;
+        }
+        _ => return Err(Unanswered::BadLine),
+    }
+    Ok(())
 }
 
-// The answer to a line.
-pub fn reply(out: &mut Buffer, o: Buffered, line: &[u8]) -> Buffered {
-    let end = lines::word_end(line, 0);
-    let word = &line[..end];
-    let at = end + 1;
-    if lines::is_word(word, b"remove_include") {
-        return ask_remove_include(out, o, line, at);
+// Says that a line is bad, whatever it is that it can't be taken for.
+pub fn say(unanswered: Unanswered, out: &mut Output, _number: u64) -> io::Result<()> {
+    match unanswered {
+        Unanswered::Failed(e) => Err(e),
+        Unanswered::BadLine | Unanswered::TooLong => writeln!(out, "bad line"),
     }
-    if lines::is_word(word, b"gaps") {
-        return ask_gaps(out, o, line, at);
-    }
-    if lines::is_word(word, b"deep") {
-        return deep(out, o);
-    }
-    if lines::is_word(word, b"price") {
-        return price(out, o);
-    }
-    bad(out, o)
 }

@@ -10,38 +10,16 @@
 
 mod answers;
 
-use lines::{Buffer, Buffered, Cursor};
-use std::io::Stdout;
+// The most bytes of a line that is taken.
+const MOST: usize = 65536;
 
-fn answered(to: Stdout, out: &mut Buffer, text: &[u8], cursor: Cursor) -> Buffered {
-    let n = lines::asked(text, cursor);
-    let o = lines::nothing_buffered(to);
-    if n == 0 {
-        return o;
-    }
-    if cursor.long {
-        return answers::bad(out, o);
-    }
-    answers::reply(out, o, &text[..n])
-}
-
-// Writes the answer to the line.
-fn answer(to: Stdout, text: &[u8], cursor: Cursor) {
-    let mut out = lines::large_buffer();
-    let o = answered(to, &mut out, text, cursor);
-    lines::flush(&out, o);
-}
-
+// Where the input or the output fails, the answers end there.
 fn main(rt: HostRuntime) {
-    let to = rt.stdout();
-    let mut bytes = lines::large_buffer();
-    let mut text = lines::large_buffer();
-    let mut cursor = lines::first_line(rt.stdin());
-    // A proved loop has to end, and nothing says that the input does. So it counts down from a number that no run uses up.
-    let mut turns = u64::MAX;
-    while turns > 0 && cursor.open {
-        turns -= 1;
-        cursor = lines::next_line(&mut bytes, &mut text, cursor);
-        answer(to, &text, cursor);
-    }
+    let alloc = rt.alloc();
+    let _ = lines::answer_lines(
+        &rt,
+        MOST,
+        |out, line| answers::answer(out, alloc, line),
+        answers::say,
+    );
 }

@@ -1,5 +1,5 @@
 -- The batch call's loop: what holds before each bar, how the next one is fed, and what is answered at the end. Assumes nothing.
-use Prim.Native.Nat.{ℕ, zero, suc, ◌+◌, ◌-◌, ◌≤◌, ◌<◌, min}
+use Prim.Native.Nat.{ℕ, zero, suc, ◌+◌, ◌≤◌, ◌<◌, min}
 use native.Mathlib.Omega.{arith}
 use native.Mathlib.Nat.{zero-min, min-zero, suc-min-suc}
 use mathlib.Core.Path.{◌≡◌, refl, ap, sym, ◌∙◌, subst}
@@ -7,35 +7,35 @@ use mathlib.Core.List.{List, [], ◌∷◌, ◌++◌}
 use lib.ListN.{length, take, drop, get_or}
 use lib.Seq.{take-suc, drop-cons, drop-length}
 use lib.Ieee.{Float}
+use Rattle.std.specs.Prelude.{Some, None, Ok, Err}
 use Rattle.bars.specs.declared.Bar.{Bar}
-use Rattle.stores.specs.Stores.{RawStore, zip_with, bar_of, raw_bars}
+use Rattle.bars.specs.declared.refusals.Question.{Question}
+use Rattle.bars.specs.Refusals.{number}
+use Rattle.stores.specs.Stores.{RawStore, MergedStore, zip_with, bar_of, raw_bars}
 use Rattle.stores.specs.Code.StoreRows.{RoomRaw, bar_at}
 use Rattle.stores.proofs.Columns.{raw_at}
-use Rattle.machine.specs.Feed.{Events}
+use Rattle.machine.specs.Feed as M
 use Rattle.machine.specs.Calls.{none_yet}
 use Rattle.machine.specs.Reached.{OneEach}
 use Rattle.machine.proofs.ReachedSound.{reached_sound}
 use Rattle.strokes.specs.declared.Stand.{Stand}
 use Rattle.strokes.specs.StateRead.{settings_of, state_of}
-use Rattle.strokes.specs.Lent.{Stores}
-use Rattle.sound.specs.declared.fresh_stand.FreshAnswer.{FreshAnswer}
-use Rattle.sound.specs.FreshStand.{fresh_of}
+use Rattle.strokes.specs.Lent.{FractalStore, Stores, stores_of}
+use Rattle.sound.specs.FreshStand.{first_stand, fresh_failed, fresh_by, fresh_of}
 use Rattle.batch.specs.declared.batch.BatchAnswer.{BatchAnswer}
-use Rattle.batch.specs.declared.batch.Sums.{Sums}
+use Rattle.feed.specs.declared.events.Events.{Events}
+use Rattle.feed.specs.Answers.{events_in, FeedAnswers}
+use Rattle.feed.proofs.FeedLaws.{numbered}
 use Rattle.feed.specs.PortCalls.{failed_by, FeedIs, added, none, accepted_if, accepted_of}
 use Rattle.from_fresh.specs.FromFresh.{FromFresh}
 use Rattle.from_fresh.proofs.OneMoreCall.{events, grown}
-use Rattle.from_fresh.specs.Code.ClearWindows.{Clear}
-use Rattle.from_fresh.proofs.FromFreshLaws.{from-fresh-begins, from-fresh-next, from-fresh-calls, from-fresh-sizes}
-use Rattle.from_fresh.proofs.ClearNext.{can_look}
+use Rattle.from_fresh.proofs.FromFreshLaws.{from-fresh-begins, from-fresh-calls}
 use Rattle.batch.specs.BatchCalls.{AllAccepted, BatchFed, BatchIs}
-use Rattle.batch.specs.Code.BatchSteps.{CanBatch, CanAdvance, advanced, left_of}
-use Rattle.writing.proofs.SameLengths.{SameLengths}
-use Rattle.feed.proofs.PortStays.{calls_lengths}
+use Rattle.batch.specs.Code.BatchSteps.{CanBatch}
 
 -- ---- one more call
 
-accepted_snoc : {s t t' : Stand} {m k k' : Stores} {bs : List Bar} {b : Bar} {e : Events} {made broken shed : ℕ}
+accepted_snoc : {s t t' : Stand} {m k k' : Stores} {bs : List Bar} {b : Bar} {e : M.Events} {made broken shed : ℕ}
     → AllAccepted s m bs e t k → FeedIs t k b 0 made broken shed t' k'
     → AllAccepted s m (bs ++ b ∷ []) (added e (events made broken shed)) t' k'
 unfolding accepted_if
@@ -45,59 +45,70 @@ accepted_snoc {b = b} a f =
 
 -- ---- before the bar at place i
 
-pub record Going (s : Stand) (m : Stores) (bars : List Bar) (i made broken shed : ℕ) (t : Stand) (k : Stores) : Type 0 where
-  pub fed : AllAccepted s m (take i bars) (record { made = made; broken = broken; shed = shed }) t k
+pub record Going (s : Stand) (m : Stores) (bars : List Bar) (i : ℕ) (e : Events) (t : Stand) (k : Stores) : Type 0 where
+  pub fed : AllAccepted s m (take i bars) (events_in e) t k
   pub places : i ≤ length bars
-  pub few-made : made ≤ i
-  pub few-broken : broken ≤ i
-  pub few-shed : shed ≤ i
+  pub few : (e.made ≤ i) × (e.broken ≤ i) × (e.shed ≤ i)
 
-pub going_start : (s : Stand) (m : Stores) (bars : List Bar) → Going s m bars 0 0 0 0 s m
+pub going_start : (s : Stand) (m : Stores) (bars : List Bar) (e : Events) → e ≡ record { made = 0; broken = 0; shed = 0 } → Going s m bars 0 e s m
 unfolding none_yet accepted_of
-going_start s m bars = record { fed = record { calls = none; taken = refl }; places = omega arith; few-made = omega arith; few-broken = omega arith; few-shed = omega arith }
+going_start s m bars e z =
+    subst (λ (x : Events). Going s m bars 0 x s m) (sym z)
+    (record { fed = record { calls = none; taken = refl }; places = omega arith; few = (omega arith, omega arith, omega arith) })
 
 -- an accepted bar makes, breaks and sheds at most one stroke each
 one_of : {s s' : Stand} {m m' : Stores} {b : Bar} {made broken shed : ℕ} → FeedIs s m b 0 made broken shed s' m' → OneEach (record { made = made; broken = broken; shed = shed })
 one_of {s = s} {m = m} {b = b} f = subst OneEach (sym (f.accepted refl).1) (reached_sound.one_each (settings_of s) (state_of s m) b)
 
-one_if : {s s' : Stand} {m m' : Stores} {b : Bar} {f made broken shed : ℕ} → f ≡ 0 → FeedIs s m b f made broken shed s' m' → OneEach (record { made = made; broken = broken; shed = shed })
-one_if {s = s} {s' = s'} {m = m} {m' = m'} {b = b} {made = made} {broken = broken} {shed = shed} z f = one_of (subst (λ (n : ℕ). FeedIs s m b n made broken shed s' m') z f)
-
-going_on : {s t t' : Stand} {m k k' : Stores} {bars : List Bar} {i made broken shed ma br sh : ℕ} (b : Bar) → Going s m bars i made broken shed t k
-    → i < length bars → get_or bars i b ≡ b → FeedIs t k b 0 ma br sh t' k'
-    → Going s m bars (i + 1) (made + ma) (broken + br) (shed + sh) t' k'
-unfolding added
-going_on {s = s} {t' = t'} {m = m} {k' = k'} {bars = bars} {i = i} {made = made} {broken = broken} {shed = shed} {ma = ma} {br = br} {sh = sh} b g h at f =
+-- no sum is too large
+pub sums_fit : {s t t' : Stand} {m k k' : Stores} {bars : List Bar} {i n : ℕ} {b : Bar} {e : Events} (more : Events) → Going s m bars i e t k → i < n → n < 18446744073709551616 → FeedAnswers t k b (Ok more) t' k'
+    → (e.made + more.made ≤ 18446744073709551615) × (e.broken + more.broken ≤ 18446744073709551615) × (e.shed + more.shed ≤ 18446744073709551615)
+sums_fit more g h top f =
     let o = one_of f in
     let o1 = o.made in
     let o2 = o.broken in
     let o3 = o.shed in
-    let g1 = g.few-made in
-    let g2 = g.few-broken in
-    let g3 = g.few-shed in
+    let g1 = g.few.0 in
+    let g2 = g.few.1 in
+    let g3 = g.few.2 in
+    (omega arith, omega arith, omega arith)
+
+pub going_on : {s t t' : Stand} {m k k' : Stores} {bars : List Bar} {i : ℕ} {e r : Events} (b : Bar) (more : Events) → Going s m bars i e t k
+    → i < length bars → get_or bars i b ≡ b → FeedAnswers t k b (Ok more) t' k' → events_in r ≡ added (events_in e) (events_in more)
+    → Going s m bars (i + 1) r t' k'
+unfolding added
+going_on {s = s} {t' = t'} {m = m} {k' = k'} {bars = bars} {i = i} {e = e} {r = r} b more g h at f sum =
+    let o = one_of f in
+    let o1 = o.made in
+    let o2 = o.broken in
+    let o3 = o.shed in
+    let g1 = g.few.0 in
+    let g2 = g.few.1 in
+    let g3 = g.few.2 in
+    let r1 : r.made ≡ e.made + more.made = ap (λ (x : M.Events). x.made) sum in
+    let r2 : r.broken ≡ e.broken + more.broken = ap (λ (x : M.Events). x.broken) sum in
+    let r3 : r.shed ≡ e.shed + more.shed = ap (λ (x : M.Events). x.shed) sum in
     let q : suc i ≡ i + 1 = omega arith in
-    let e : take i bars ++ b ∷ [] ≡ take (i + 1) bars =
+    let l : take i bars ++ b ∷ [] ≡ take (i + 1) bars =
     ap (λ (x : Bar). take i bars ++ x ∷ []) (sym at) ∙ sym (take-suc bars i b h) ∙ ap (λ (n : ℕ). take n bars) q in
     record {
-      fed = subst (λ (l : List Bar). AllAccepted s m l (record { made = made + ma; broken = broken + br; shed = shed + sh }) t' k') e (accepted_snoc g.fed f);
+      fed = subst (λ (x : M.Events). AllAccepted s m (take (i + 1) bars) x t' k') (sym sum) (subst (λ (l : List Bar). AllAccepted s m l (added (events_in e) (events_in more)) t' k') l (accepted_snoc g.fed f));
       places = omega arith;
-      few-made = omega arith;
-      few-broken = omega arith;
-      few-shed = omega arith;
+      few = (omega arith, omega arith, omega arith);
     }
 
 -- the bar is refused
-going_stop : {s t t' : Stand} {m k k' : Stores} {bars : List Bar} {i made broken shed n ma br sh : ℕ} (b : Bar) → Going s m bars i made broken shed t k
-    → i < length bars → get_or bars i b ≡ b → FeedIs t k b n ma br sh t' k' → (n ≡ 0 → ⊥)
-    → BatchFed s m bars (record { stand = t; fed = i; failed = n; made = made; broken = broken; shed = shed }) k'
-going_stop {s = s} {t = t} {m = m} {k = k} {k' = k'} {bars = bars} {i = i} {made = made} {broken = broken} {shed = shed} {n = n} b g h at f nz =
-    let same = (f.refused nz).1 in
+pub going_stop : {s t t' : Stand} {m k k' : Stores} {bars : List Bar} {i : ℕ} {e : Events} (b : Bar) (q : Question) → Going s m bars i e t k
+    → i < length bars → get_or bars i b ≡ b → FeedAnswers t k b (Err q) t' k'
+    → BatchFed s m bars (record { stand = t'; fed = i; events = e; refused = Some q }) k'
+going_stop {s = s} {t = t} {t' = t'} {m = m} {k = k} {k' = k'} {bars = bars} {i = i} {e = e} b q g h at f =
+    let same = f.refused (numbered q) in
     record {
-      fed = subst (λ (z : Stores). AllAccepted s m (take i bars) (record { made = made; broken = broken; shed = shed }) t z) (sym same) g.fed;
-      all = λ e. absurd (nz e);
-      stopped = λ e. h;
-      number = λ c l e.
-          f.failed-is ∙ (λ j. failed_by t (sym same j) ((sym at ∙ ap (λ (r : List Bar). get_or r 0 b) (sym (drop-cons bars i b h) ∙ e)) j));
+      fed = subst (λ (z : Stand). AllAccepted s m (take i bars) (events_in e) z k') (sym same.0) (subst (λ (z : Stores). AllAccepted s m (take i bars) (events_in e) t z) (sym same.1) g.fed);
+      all = λ z. absurd (numbered q z);
+      stopped = λ z. h;
+      number = λ c l y.
+          f.failed-is ∙ (λ j. failed_by (sym same.0 j) (sym same.1 j) ((sym at ∙ ap (λ (r : List Bar). get_or r 0 b) (sym (drop-cons bars i b h) ∙ y)) j));
     }
 
 -- no bar is left
@@ -106,16 +117,14 @@ cons_not-none b l r e f =
     let q : 0 ≡ suc (length l) = ap length (sym e ∙ f) in
     omega arith
 
-pub going_end : {s t : Stand} {m k : Stores} {bars : List Bar} {i made broken shed : ℕ} → Going s m bars i made broken shed t k → length bars ≤ i
-    → BatchFed s m bars (record { stand = t; fed = i; failed = 0; made = made; broken = broken; shed = shed }) k
-going_end {bars = bars} {i = i} g h =
-    let p = g.places in
-    let e : i ≡ length bars = omega arith in
+pub going_end : {s t : Stand} {m k : Stores} {bars : List Bar} {i : ℕ} {e : Events} → Going s m bars i e t k → i ≡ length bars
+    → BatchFed s m bars (record { stand = t; fed = i; events = e; refused = None }) k
+going_end {bars = bars} {i = i} g z =
     record {
       fed = g.fed;
-      all = λ z. e;
+      all = λ y. z;
       stopped = λ nz. absurd (nz refl);
-      number = λ b l q. absurd (cons_not-none b l (drop i bars) (ap (λ (n : ℕ). drop n bars) e ∙ drop-length bars) q);
+      number = λ b l q. absurd (cons_not-none b l (drop i bars) (ap (λ (n : ℕ). drop n bars) z ∙ drop-length bars) q);
     }
 
 -- ---- with the bars in columns
@@ -131,165 +140,74 @@ room_at s i n r h =
     let c = r.prices in
     record { times = omega arith; ids = omega arith; prices = omega arith }
 
--- ---- the answer so far
+-- ---- the loop
 
-abbrev pub answer_of : Sums → Stand → BatchAnswer
-answer_of r t = record { stand = t; fed = r.fed; failed = r.failed; made = r.made; broken = r.broken; shed = r.shed }
+module _ {s : Stand} {m k : Stores} {bars : RawStore} {n i : ℕ} {e : Events} {t : Stand} (can : CanBatch s m bars n) (g : Going s m (raw_bars bars) i e t k) where
+  pub still_fresh : FromFresh t k
+  still_fresh = from-fresh-calls can.begun g.fed.calls
 
--- r, the stand t and the stores k after the bars that were fed, `left` the bars to feed yet: none once one was refused
-pub record Onward (s : Stand) (m : Stores) (bars : RawStore) (n left : ℕ) (r : Sums) (t : Stand) (k : Stores) : Type 0 where
-  pub going : Going s m (raw_bars bars) r.fed r.made r.broken r.shed t k
-  pub more : r.failed ≡ 0 → left + r.fed ≡ n
-  pub stopped : (r.failed ≡ 0 → ⊥) → (left ≡ 0) × BatchFed s m (raw_bars bars) (answer_of r t) k
+  within : i < n → i < length (raw_bars bars)
+  within h = let c = can.count in omega arith
 
-pub onward_start : (s : Stand) (m : Stores) (bars : RawStore) (n : ℕ) → Onward s m bars n n (record { fed = 0; failed = 0; made = 0; broken = 0; shed = 0 }) s m
-onward_start s m bars n = record { going = going_start s m (raw_bars bars); more = λ z. omega arith; stopped = λ nz. absurd (nz refl) }
+  module _ {b : Bar} (h : i < n) (at : b ≡ bar_at bars i) where
+    here : get_or (raw_bars bars) i b ≡ b
+    here = place_of bars i b (room_at bars i n can.room h) at
 
--- a bar is left, so none was refused
-still : (failed left : ℕ) → 0 < left → ((failed ≡ 0 → ⊥) → left ≡ 0) → failed ≡ 0
-still zero left h stop = refl
-still (suc f) left h stop =
-    let e : left ≡ 0 = stop (λ z. omega arith) in
-    let w : ⊥ = omega arith in
-    absurd w
+    pub next_fed : (more : Events) {r : Events} {t' : Stand} {k' : Stores} → FeedAnswers t k b (Ok more) t' k' → events_in r ≡ added (events_in e) (events_in more) → Going s m (raw_bars bars) (i + 1) r t' k'
+    next_fed more f sum = going_on b more g (within h) here f sum
 
-module _ {s : Stand} {m k : Stores} {bars : RawStore} {n left : ℕ} {r : Sums} {t : Stand} (can : CanBatch s m bars n) (o : Onward s m bars n left r t k) where
-  none-refused : 0 < left → r.failed ≡ 0
-  none-refused h = still r.failed left h (λ nz. (o.stopped nz).0)
+    pub next-refused : (q : Question) {t' : Stand} {k' : Stores} → FeedAnswers t k b (Err q) t' k'
+        → BatchFed s m (raw_bars bars) (record { stand = t'; fed = i; events = e; refused = Some q }) k'
+    next-refused q f = going_stop b q g (within h) here f
 
-  before-end : 0 < left → r.fed < n
-  before-end h = let e = o.more (none-refused h) in omega arith
-
-  -- what the next bar asks
-  pub next-room : 0 < left → RoomRaw bars (r.fed + 1)
-  next-room h = room_at bars r.fed n can.room (before-end h)
-
-  pub next_reached : FromFresh t k
-  next_reached = from-fresh-calls can.begun o.going.fed.calls
-
-  -- what the windows after it ask
-  pub can_look_on : {b : Bar} {c f made broken shed : ℕ} {t' : Stand} {k' : Stores} → Clear t k c → FeedIs t k b f made broken shed t' k'
-      → (t.raw < 4294967296) × (t.unfinished < 4294967296) × (t'.unfinished < 4294967296) × (c ≤ t.unfinished) × (t'.unfinished ≤ length k'.unfinished.prices)
-  can_look_on w x = can_look next_reached w (from-fresh-next next_reached x)
-
-  -- the sums of one more bar fit
-  pub can_advance : {b : Bar} {f made broken shed : ℕ} {t' : Stand} {k' : Stores} → 0 < left → n ≤ 18446744073709551615 → FeedIs t k b f made broken shed t' k'
-      → CanAdvance r f made broken shed
-  can_advance h top x =
-      let e = before-end h in
-      let a1 = o.going.few-made in
-      let a2 = o.going.few-broken in
-      let a3 = o.going.few-shed in
-      record {
-        fed = omega arith;
-        made = λ z. let q = (one_if z x).made in omega arith;
-        broken = λ z. let q = (one_if z x).broken in omega arith;
-        shed = λ z. let q = (one_if z x).shed in omega arith;
-      }
-
-  here : (h : 0 < left) → get_or (raw_bars bars) r.fed (bar_at bars r.fed) ≡ bar_at bars r.fed
-  here h = place_of bars r.fed (bar_at bars r.fed) (room_at bars r.fed n can.room (before-end h)) refl
-
-  within : 0 < left → r.fed < length (raw_bars bars)
-  within h =
-      let e = can.count in
-      let l = before-end h in
-      omega arith
-
-  by_number : (h : 0 < left) (f made broken shed : ℕ) (t' : Stand) (k' : Stores) → FeedIs t k (bar_at bars r.fed) f made broken shed t' k'
-      → (l : ℕ) → l ≡ left_of (advanced f r made broken shed).failed n (advanced f r made broken shed).fed → Onward s m bars n l (advanced f r made broken shed) t' k'
-  unfolding advanced left_of
-  by_number h zero made broken shed t' k' f l e =
-      let g = going_on (bar_at bars r.fed) o.going (within h) (here h) f in
-      let b = before-end h in
-      let q : l ≡ n - (r.fed + 1) = e in
-      record { going = g; more = λ z. omega arith; stopped = λ nz. absurd (nz refl) }
-  by_number h (suc c) made broken shed t' k' f l e =
-      let nz : suc c ≡ 0 → ⊥ = λ z. omega arith in
-      let same = f.refused nz in
-      let d = going_stop (bar_at bars r.fed) o.going (within h) (here h) f nz in
-      subst (λ (z : Stand). Onward s m bars n l (advanced (suc c) r made broken shed) z k') (sym same.0)
-      (record {
-        going = subst (λ (z : Stores). Going s m (raw_bars bars) r.fed r.made r.broken r.shed t z) (sym same.1) o.going;
-        more = λ z. absurd (nz z);
-        stopped = λ q. (e, d);
-      })
-
-  module _ {f made broken shed l : ℕ} {t' : Stand} {k' : Stores} {r' : Sums} (h : 0 < left) (x : FeedIs t k (bar_at bars r.fed) f made broken shed t' k')
-      (next : r' ≡ advanced f r made broken shed) (e : l ≡ left_of r'.failed n r'.fed) where
-    by_next : l ≡ left_of (advanced f r made broken shed).failed n (advanced f r made broken shed).fed
-    by_next = e ∙ ap (λ (z : Sums). left_of z.failed n z.fed) next
-
-    -- after the next bar
-    pub onward_next : Onward s m bars n l r' t' k'
-    onward_next = subst (λ (z : Sums). Onward s m bars n l z t' k') (sym next) (by_number h f made broken shed t' k' x l by_next)
-
-    -- fewer are left
-    pub fewer-left : l < left
-    unfolding advanced left_of
-    fewer-left = fewer_by f by_next
-      where
-        fewer_by : (f : ℕ) → l ≡ left_of (advanced f r made broken shed).failed n (advanced f r made broken shed).fed → l < left
-        fewer_by zero e =
-            let q = o.more (none-refused h) in
-            let u : l ≡ n - (r.fed + 1) = e in
-            omega arith
-        fewer_by (suc c) e = let u : l ≡ 0 = e in omega arith
-
-  -- none is left
-  pub onward_end : (0 < left → ⊥) → BatchFed s m (raw_bars bars) (answer_of r t) k
-  onward_end nz = end_by r.failed refl
-    where
-      end_by : (f : ℕ) → r.failed ≡ f → BatchFed s m (raw_bars bars) (answer_of r t) k
-      end_by zero z =
-          let q = o.more z in
-          let c = can.count in
-          subst (λ (f : ℕ). BatchFed s m (raw_bars bars) (record { stand = t; fed = r.fed; failed = f; made = r.made; broken = r.broken; shed = r.shed }) k) (sym z)
-          (going_end o.going (omega arith))
-      end_by (suc f) z = (o.stopped (λ q. omega arith)).1
-
-pub advance_yes : (r : Sums) (f made broken shed : ℕ) → f ≡ 0
-    → ◌≡◌ {A = Sums} (record { fed = r.fed + 1; failed = 0; made = r.made + made; broken = r.broken + broken; shed = r.shed + shed }) (advanced f r made broken shed)
-unfolding advanced
-advance_yes r zero made broken shed z = refl
-advance_yes r (suc f) made broken shed z = let w : ⊥ = omega arith in absurd w
-
-pub advance_no : (r : Sums) (f made broken shed : ℕ) → (f ≡ 0 → ⊥)
-    → ◌≡◌ {A = Sums} (record { fed = r.fed; failed = f; made = r.made; broken = r.broken; shed = r.shed }) (advanced f r made broken shed)
-unfolding advanced
-advance_no r zero made broken shed nz = absurd (nz refl)
-advance_no r (suc f) made broken shed nz = refl
-
-pub left-some : (f n i : ℕ) → f ≡ 0 → n - i ≡ left_of f n i
-unfolding left_of
-left-some zero n i z = refl
-left-some (suc f) n i z = let w : ⊥ = omega arith in absurd w
-
-pub left-none : (f n i : ℕ) → (f ≡ 0 → ⊥) → 0 ≡ left_of f n i
-unfolding left_of
-left-none zero n i nz = absurd (nz refl)
-left-none (suc f) n i nz = refl
-
-pub same_lengths : {s t : Stand} {m k : Stores} {bars : RawStore} {n left : ℕ} {r : Sums} → CanBatch s m bars n → Onward s m bars n left r t k → SameLengths m k
-same_lengths can o = calls_lengths o.going.fed.calls (from-fresh-sizes can.begun)
+  pub all_fed : i ≡ n → BatchFed s m (raw_bars bars) (record { stand = t; fed = n; events = e; refused = None }) k
+  all_fed z =
+      let c = can.count in
+      subst (λ (j : ℕ). BatchFed s m (raw_bars bars) (record { stand = t; fed = j; events = e; refused = None }) k) z (going_end g (omega arith))
 
 -- ---- the call
 
-pub batch-refused : (minimum most power ratio : ℕ) (m : Stores) (bars : List Bar) (a : FreshAnswer) → a ≡ fresh_of minimum most power ratio m → (a.refused ≡ 0 → ⊥)
-    → BatchIs minimum most power ratio m bars (record { stand = a.stand; fed = 0; failed = a.refused; made = 0; broken = 0; shed = 0 }) m
-batch-refused minimum most power ratio m bars a e nz =
-    record {
-      refused = λ h. record { failed = ap (λ (z : FreshAnswer). z.refused) e; fed = refl; sums = (refl, refl, refl); stand = ap (λ (z : FreshAnswer). z.stand) e; stores = refl };
-      answered = λ z. absurd (nz (ap (λ (z : FreshAnswer). z.refused) e ∙ z));
-    }
+by_failed : (n minimum most power ratio : ℕ) (m : Stores) → (fresh_by n minimum most power ratio m).refused ≡ n
+unfolding fresh_by
+by_failed zero minimum most power ratio m = refl
+by_failed (suc n) minimum most power ratio m = refl
 
-pub batch-answered : (minimum most power ratio : ℕ) (m m' : Stores) (bars : List Bar) (r : BatchAnswer) (a : FreshAnswer) → a ≡ fresh_of minimum most power ratio m → a.refused ≡ 0
-    → BatchFed a.stand m bars r m' → BatchIs minimum most power ratio m bars r m'
-batch-answered minimum most power ratio m m' bars r a e z f =
-    record {
-      refused = λ nz. absurd (nz (ap (λ (x : FreshAnswer). x.refused) (sym e) ∙ z));
-      answered = λ h. subst (λ (x : FreshAnswer). BatchFed x.stand m bars r m') e f;
-    }
+by_none : (n minimum most power ratio : ℕ) (m : Stores) → n ≡ 0 → (fresh_by n minimum most power ratio m).stand ≡ first_stand minimum most power ratio m
+unfolding fresh_by first_stand
+by_none zero minimum most power ratio m z = refl
+by_none (suc n) minimum most power ratio m z = absurd (omega arith)
+
+module _ (minimum most power ratio : ℕ) {r r' : RawStore} {u u' k k' : MergedStore} {f f' : FractalStore} (hr : r ≡ r') (hu : u ≡ u') (hk : k ≡ k') (hf : f ≡ f') where
+  -- of stores that are lent to be read
+  pub failed_seen : {n : ℕ} → n ≡ fresh_failed minimum most power ratio (stores_of r u k f) → n ≡ fresh_failed minimum most power ratio (stores_of r' u' k' f')
+  failed_seen e = e ∙ (λ i. fresh_failed minimum most power ratio (stores_of (hr i) (hu i) (hk i) (hf i)))
+
+  pub begun_seen : {s : Stand} → s ≡ first_stand minimum most power ratio (stores_of r u k f) → s ≡ first_stand minimum most power ratio (stores_of r' u' k' f')
+  begun_seen e = e ∙ (λ i. first_stand minimum most power ratio (stores_of (hr i) (hu i) (hk i) (hf i)))
+
+module _ (minimum most power ratio : ℕ) (m : Stores) where
+  pub refused-is : (fresh_of minimum most power ratio m).refused ≡ fresh_failed minimum most power ratio m
+  unfolding fresh_of
+  refused-is = by_failed (fresh_failed minimum most power ratio m) minimum most power ratio m
+
+  pub begun_is : fresh_failed minimum most power ratio m ≡ 0 → (fresh_of minimum most power ratio m).stand ≡ first_stand minimum most power ratio m
+  unfolding fresh_of
+  begun_is z = by_none (fresh_failed minimum most power ratio m) minimum most power ratio m z
+
+  pub batch-refused : (bars : List Bar) (q : Question) → number q ≡ fresh_failed minimum most power ratio m → BatchIs minimum most power ratio m bars (Err q) m
+  batch-refused bars q e =
+      record {
+        refused = λ h. record { failed = e ∙ sym refused-is; stores = refl };
+        answered = λ z. absurd (numbered q (e ∙ sym refused-is ∙ z));
+      }
+
+  pub batch-answered : {m' : Stores} (bars : List Bar) (r : BatchAnswer) (s : Stand) → 0 ≡ fresh_failed minimum most power ratio m → s ≡ first_stand minimum most power ratio m
+      → BatchFed s m bars r m' → BatchIs minimum most power ratio m bars (Ok r) m'
+  batch-answered {m' = m'} bars r s z e f =
+      record {
+        refused = λ nz. absurd (nz (refused-is ∙ sym z));
+        answered = λ h. subst (λ (x : Stand). BatchFed x m bars r m') (e ∙ sym (begun_is (sym z))) f;
+      }
 
 -- as many bars as the shortest column has
 zip-min : {A B C : Type 0} (f : A → B → C) (l : List A) (m : List B) → length (zip_with f l m) ≡ min (length l) (length m)
@@ -305,11 +223,11 @@ count-is s =
     ∙ ap (λ (j : ℕ). min j (length s.prices)) (zip-min bar_of s.times s.ids)
 
 -- what the loop asks
-pub can_batch : (minimum most power ratio : ℕ) (m : Stores) (bars : RawStore) (n : ℕ) (a : FreshAnswer) → a ≡ fresh_of minimum most power ratio m → a.refused ≡ 0
-    → n ≡ min (min (length bars.times) (length bars.ids)) (length bars.prices) → CanBatch a.stand m bars n
-can_batch minimum most power ratio m bars n a e z c =
+pub can_batch : (minimum most power ratio : ℕ) (m : Stores) (bars : RawStore) (n : ℕ) (s : Stand) → 0 ≡ fresh_failed minimum most power ratio m → s ≡ first_stand minimum most power ratio m
+    → n ≡ min (min (length bars.times) (length bars.ids)) (length bars.prices) → CanBatch s m bars n
+can_batch minimum most power ratio m bars n s z e c =
     record {
-      begun = subst (λ (x : FreshAnswer). FromFresh x.stand m) (sym e) (from-fresh-begins minimum most power ratio m (ap (λ (x : FreshAnswer). x.refused) (sym e) ∙ z));
+      begun = subst (λ (x : Stand). FromFresh x m) (begun_is minimum most power ratio m (sym z) ∙ sym e) (from-fresh-begins minimum most power ratio m (refused-is minimum most power ratio m ∙ sym z));
       room = record { times = omega arith; ids = omega arith; prices = omega arith };
       count = count-is bars ∙ sym c;
     }

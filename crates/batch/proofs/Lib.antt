@@ -1,2 +1,2 @@
 pub mod BatchLoop
-pub mod BatchSteps
+pub mod SameOn

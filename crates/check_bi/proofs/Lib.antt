@@ -1,4 +1,5 @@
 pub mod ScanPlaces
+pub mod Marks
 pub mod ScanSteps
 pub mod ScanViews
 pub mod ScanWindows

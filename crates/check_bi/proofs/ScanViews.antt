@@ -1,25 +1,27 @@
--- Reading the view, and the loop of the scan.
+-- Reading the bars that a scan goes over, and that no sum of it wraps.
 -- Assumes nothing.
 use Prim.Native.Nat.{ℕ, zero, suc, ◌+◌, ◌-◌, ◌≤◌, ◌<◌}
 use native.Mathlib.Omega.{arith}
-use mathlib.Core.Path.{◌≡◌, refl, ap, sym, ◌∙◌, subst}
+use mathlib.Core.Path.{◌≡◌, refl, ap, sym, ◌∙◌}
 use mathlib.Core.Bool.{Bool, true, false, not, ◌&&◌}
 use mathlib.Core.List.{List, [], ◌∷◌, ◌++◌, map, map-append}
-use lib.ListN.{length, take, drop, get_or, length-append, length-drop, get_or-append, drop_of_length-le}
-use lib.Seq.{length-take-le, get_or-take, get_or-append-add, get_or-drop, drop-cons}
+use lib.ListN.{length, take, drop, get_or, length-append, length-drop, get_or-append}
+use lib.Seq.{length-take-le, get_or-take, get_or-append-add, get_or-drop}
 use lib.IntN.{ℤ, pos}
-use lib.Dec.{eqb, leb}
-use lib.Ieee.{Float, nan}
+use lib.Dec.{leb}
+use lib.Ieee.{Float}
+use Rattle.std.specs.Prelude.{Option, Some, None, IfSome}
 use Rattle.stores.specs.Stores.{zip_with, bar_of, with_first, merged_store, raw_bars, merged_bars}
 use Rattle.stores.proofs.KeptBars.{map-take}
-use Rattle.machine.specs.declared.Mark.TheVariants.{D, G}
 use Rattle.check_bi.specs.declared.check_fx.Candle.{Candle}
 use Rattle.check_bi.specs.declared.check_fx.Fx.{Fx}
+use Rattle.check_bi.specs.declared.scan.Best.{Best}
 use Rattle.check_bi.specs.declared.scan.Scan.{Scan}
 use Rattle.machine.specs.Fractals.{same_mark, beyond}
 use Rattle.machine.specs.Strokes.{best_if}
-use Rattle.check_bi.specs.Code.Scan.{candle_of, fx_at, value_of, top_of, bottom_of, cut_with, closes_of, upto_if, upto_with, put_if, put_of, no_fx, blank, opened_of, take_if, take_of, step_if, step_of, scan_from, scan_of, Small}
-use Rattle.check_bi.specs.Code.View.{view, candle_from, candles}
+use Rattle.check_bi.specs.Code.Scan.{candle_of, value_of, cut_with, closes_of, upto_if, grown, best_if_new, best_with, put_of, opened_of, take_on, BestFits, Small, SmallIf}
+use Rattle.check_bi.specs.declared.view.View.{View}
+use Rattle.check_bi.specs.Code.View.{view, candle_from, candles, times_in, rows_in, places}
 
 -- ---- the view
 
@@ -70,22 +72,14 @@ pub length-candles : (ts : List ℤ) (ps : List (List Float)) (lo : ℕ) → len
 unfolding candles
 length-candles ts ps lo h = length-drop lo (zip_with candle_from ts ps) ∙ ap (λ (n : ℕ). n - lo) (length-zip candle_from ts ps h)
 
--- ---- what was seen stays small
+-- as many times as rows of prices
+pub view-times : (v : View) → length (times_in v) ≡ places v
+view-times v = length-append v.times.now v.tail_times.now
 
-pub small_on : (s : Scan) (i k : ℕ) → Small s i → i ≤ k → k < 4294967296 → Small s k
-small_on s i k h l b =
-    let q = h.few in
-    let r = h.last in
-    let t = h.cut_in in
-    record {
-      few = omega arith;
-      within = h.within;
-      early = h.early;
-      last = omega arith;
-      cut_in = omega arith;
-      fits = b;
-      near = λ f. omega (arith, h.near f);
-    }
+pub view-rows : (v : View) → length (rows_in v) ≡ places v
+view-rows v = length-append v.prices.now v.tail_prices.now ∙ (λ i. v.even i + v.tail_even i)
+
+-- ---- what was seen stays small
 
 pub best-place : (t : Bool) (f b : Fx) (i : ℕ) → f.place ≤ i → b.place ≤ i → (best_if t f b).place ≤ i
 unfolding best_if
@@ -96,162 +90,48 @@ cut-place : (a f : Fx) (i : ℕ) → f.place ≤ i → a.place ≤ i → (cut_wi
 unfolding cut_with
 cut-place a f i h k = best-place (same_mark a.mark f.mark && not (beyond a.mark (value_of a) (value_of f))) f a i h k
 
-upto_few : (e t : Bool) (u n : ℕ) → u ≤ n → upto_if e t u ≤ n + 1
+upto_few : (t : Bool) (u n : ℕ) → u ≤ n → upto_if t u ≤ n + 1
 unfolding upto_if
-upto_few true true u n h = omega arith
-upto_few true false u n h = omega arith
-upto_few false t u n h = omega arith
+upto_few true u n h = omega arith
+upto_few false u n h = omega arith
 
-put_small : (t : Bool) (s : Scan) (f : Fx) → Small s f.place → f.place + 1 < 4294967296 → Small (put_if t s f) (f.place + 1)
-unfolding put_if upto_with
-put_small true s f h b =
+best_small : (t : Bool) (o : Option Best) (n start : ℕ) (f : Fx) → start ≤ f.place → IfSome o (BestFits n start f.place)
+    → IfSome (best_if_new t o (n + 1) f) (BestFits (n + 1) start (f.place + 1))
+unfolding best_if_new grown
+best_small true o n start f h k = record { within = omega arith; early = h; near = omega arith }
+best_small false None n start f h k = tt
+best_small false (Some b) n start f h k =
+    let q = k.near in
+    record { within = upto_few (leb f.place (b.end.place + 1)) b.upto n k.within; early = k.early; near = omega arith }
+
+pub small_take : (s : Option Scan) (f : Fx) → SmallIf s f.place → f.place + 1 < 4294967296 → Small (take_on s f) (f.place + 1)
+unfolding take_on opened_of put_of best_with
+small_take None f h b = record { few = omega arith; begun = omega arith; cut_in = omega arith; fits = b; best = tt }
+small_take (Some s) f h b =
     let q = h.few in
-    let r = h.last in
-    let v = h.early in
+    let r = h.begun in
     record {
       few = omega arith;
-      within = omega arith;
-      early = omega arith;
-      last = omega arith;
+      begun = omega arith;
       cut_in = cut-place s.cut f (f.place + 1) (omega arith) (omega (arith, h.cut_in));
       fits = b;
-      near = λ e. omega arith;
+      best = best_small (closes_of s f) s.best s.count s.start.place f r h.best;
     }
-put_small false s f h b =
-    let q = h.few in
-    let r = h.last in
+
+best_on : (o : Option Best) (n start i k : ℕ) → i ≤ k → IfSome o (BestFits n start i) → IfSome o (BestFits n start k)
+best_on None n start i k l h = tt
+best_on (Some b) n start i k l h = record { within = h.within; early = h.early; near = omega (arith, h.near) }
+
+pub small_on : (s : Option Scan) (i k : ℕ) → i ≤ k → k < 4294967296 → SmallIf s i → SmallIf s k
+small_on None i k l b h = tt
+small_on (Some s) i k l b h =
     record {
-      few = omega arith;
-      within = upto_few s.found (leb f.place (s.end.place + 1)) s.upto s.count h.within;
-      early = h.early;
-      last = omega arith;
-      cut_in = cut-place s.cut f (f.place + 1) (omega arith) (omega (arith, h.cut_in));
+      few = omega (arith, h.few);
+      begun = omega (arith, h.begun);
+      cut_in = omega (arith, h.cut_in);
       fits = b;
-      near = λ e. omega (arith, h.near e);
+      best = best_on s.best s.count s.start.place i k l h.best;
     }
-
-opened_small : (f : Fx) → f.place + 1 < 4294967296 → Small (opened_of f) (f.place + 1)
-unfolding opened_of
-opened_small f b =
-    record {
-      few = omega arith;
-      within = omega arith;
-      early = omega arith;
-      last = omega arith;
-      cut_in = omega arith;
-      fits = b;
-      near = λ e. let y : ◌≡◌ {A = ℕ} 0 1 = cc in absurd (omega arith);
-    }
-
-take-small : (t m : Bool) (s : Scan) (f : Fx) → Small s f.place → f.place + 1 < 4294967296 → Small (take_if t m s f) (f.place + 1)
-unfolding take_if put_of
-take-small true m s f h b = opened_small f b
-take-small false true s f h b = small_on s f.place (f.place + 1) h (omega arith) b
-take-small false false s f h b = put_small (closes_of s f) s f h b
-
-step_small : (t u : Bool) (s : Scan) (i : ℕ) (b : Candle) → Small s i → i + 1 < 4294967296 → Small (step_if t u s i b) (i + 1)
-unfolding step_if take_of fx_at
-step_small true u s i b h k = take-small (eqb s.count 0) (same_mark s.last G) s (fx_at i G b) h k
-step_small false true s i b h k = take-small (eqb s.count 0) (same_mark s.last D) s (fx_at i D b) h k
-step_small false false s i b h k = small_on s i (i + 1) h (omega arith) k
-
-pub small-step : (s s' : Scan) (i : ℕ) (a b c : Candle) → s' ≡ step_of s i a b c → Small s i → i + 1 < 4294967296 → Small s' (i + 1)
-unfolding step_of
-small-step s s' i a b c e h k = subst (λ (z : Scan). Small z (i + 1)) (sym e) (step_small (top_of a b c) (bottom_of a b c) s i b h k)
-
-pub small-blank : (s : Scan) → s ≡ blank → Small s 0
-unfolding blank no_fx
-small-blank s e =
-    subst (λ (z : Scan). Small z 0) (sym e) (record {
-      few = omega arith;
-      within = omega arith;
-      early = omega arith;
-      last = omega arith;
-      cut_in = omega arith;
-      fits = omega arith;
-      near = λ f. let y : ◌≡◌ {A = ℕ} 0 1 = cc in absurd (omega arith);
-    })
-
--- ---- the loop; v is what is scanned
-
-pub turned : (v : List Candle) (i : ℕ) (s s' r : Scan) (a b c : Candle) → i + 2 < length v → c ≡ get_or v (i + 2) no_candle → s' ≡ step_of s i a b c
-    → scan_from i s a b (drop (i + 2) v) ≡ r → scan_from (i + 1) s' b c (drop (i + 1 + 2) v) ≡ r
-unfolding scan_from
-turned v i s s' r a b c h e f g =
-    let q : suc (i + 2) ≡ i + 1 + 2 = omega arith in
-    let d : drop (i + 2) v ≡ c ∷ drop (i + 1 + 2) v =
-    drop-cons v (i + 2) no_candle h ∙ (λ k. sym e k ∷ drop (q k) v) in
-    ap (λ (z : Scan). scan_from (i + 1) z b c (drop (i + 1 + 2) v)) f ∙ sym (ap (scan_from i s a b) d) ∙ g
-
-pub began : (v : List Candle) (s : Scan) (a b : Candle) → 1 < length v → s ≡ blank → a ≡ get_or v 0 no_candle → b ≡ get_or v 1 no_candle → scan_from 0 s a b (drop 2 v) ≡ scan_of v
-unfolding scan_of
-began [] s a b h e f g = absurd (omega arith)
-began (x ∷ []) s a b h e f g = absurd (omega arith)
-began (x ∷ y ∷ v) s a b h e f g = λ k. scan_from 0 (e k) (f k) (g k) v
-
-pub none_seen_lem : (v : List Candle) (s : Scan) → length v ≤ 1 → s ≡ blank → s ≡ scan_of v
-unfolding scan_of
-none_seen_lem [] s h e = e
-none_seen_lem (x ∷ []) s h e = e
-none_seen_lem (x ∷ y ∷ v) s h e = absurd (omega arith)
-
-pub all_seen : (v : List Candle) (i : ℕ) (s r : Scan) (a b : Candle) → length v ≤ i + 2 → scan_from i s a b (drop (i + 2) v) ≡ r → s ≡ r
-unfolding scan_from
-all_seen v i s r a b h e = sym (ap (scan_from i s a b) (drop_of_length-le v {i = i + 2} h)) ∙ e
-
--- ---- what the code has read
-
-pub candle-is : (t t' : ℤ) (p p' : List Float) → t ≡ t' → p ≡ p' → record { time = t; high = get_or p 2 nan; low = get_or p 3 nan } ≡ candle_from t' p'
-unfolding candle_from
-candle-is t t' p p' e f = λ i. record { time = e i; high = get_or (f i) 2 nan; low = get_or (f i) 3 nan }
-
--- ---- the scan of the view from place lo on
-
-module _ (ts us : List ℤ) (ps qs : List (List Float)) (n m lo : ℕ)
-    (h : (n ≤ length ts) × (n ≤ length ps) × (m ≤ length us) × (m ≤ length qs) × (n + m < 4294967296) × (lo ≤ n + m)) where
-  abbrev pub scanned : List Candle
-  scanned = drop lo (candles (view n ts m us) (view n ps m qs))
-
-  abbrev pub candle_on : ℕ → Candle
-  candle_on i = candle_from (get_or (view n ts m us) i (pos 0)) (get_or (view n ps m qs) i [])
-
-  -- what holds whenever the loop tests
-  abbrev pub Scanning : Scan → Candle → Candle → ℕ → Type 0
-  Scanning s a b i = (lo + i + 2 ≤ n + m) × Small s i × (scan_from i s a b (drop (i + 2) scanned) ≡ scan_of scanned)
-
-  -- what holds of the answer
-  abbrev pub Scanned : Scan → Type 0
-  Scanned s = (s ≡ scan_of scanned) × (Small s (n + m - lo) × (s.found ≡ true → s.end.place + 2 < n + m - lo))
-
-  times_long : length (view n ts m us) ≡ n + m
-  times_long = length-view ts us n m h.0 h.2
-
-  columns : length (view n ts m us) ≡ length (view n ps m qs)
-  columns = times_long ∙ sym (length-view ps qs n m h.1 h.3)
-
-  long : length scanned ≡ n + m - lo
-  long = length-candles (view n ts m us) (view n ps m qs) lo columns ∙ ap (λ (k : ℕ). k - lo) times_long
-
-  on : (i j : ℕ) → lo + i ≡ j → j < n + m → candle_on j ≡ get_or scanned i no_candle
-  on i j e k =
-      ap candle_on (sym e) ∙ sym (candle_in (view n ts m us) (view n ps m qs) lo i columns (omega (arith, times_long)))
-
-  pub scan_none : (s : Scan) → s ≡ blank → n + m < lo + 2 → Scanned s
-  scan_none s e k =
-      let q = small-blank s e in
-      (none_seen_lem scanned s (omega (arith, long)) e, (small_on s 0 (n + m - lo) q (omega arith) (omega (arith, h.4)), λ f. absurd (omega (arith, q.near f))))
-
-  pub scan_began : (s : Scan) (a b : Candle) → s ≡ blank → lo + 2 ≤ n + m → a ≡ candle_on lo → b ≡ candle_on (lo + 1) → Scanning s a b 0
-  scan_began s a b e k f g =
-      (omega arith, small-blank s e, began scanned s a b (omega (arith, long)) e (f ∙ on 0 lo (omega arith) (omega arith)) (g ∙ on 1 (lo + 1) refl (omega arith)))
-
-  pub scan_turned : (s s' : Scan) (a b c : Candle) (i : ℕ) → Scanning s a b i → lo + i + 2 < n + m → c ≡ candle_on (lo + i + 2) → s' ≡ step_of s i a b c → Scanning s' b c (i + 1)
-  scan_turned s s' a b c i w k e f =
-      (omega arith, small-step s s' i a b c f w.1 (omega (arith, h.4)), turned scanned i s s' (scan_of scanned) a b c (omega (arith, long)) (e ∙ on (i + 2) (lo + i + 2) (omega arith) k) f w.2)
-
-  pub scan_done : (s : Scan) (a b : Candle) (i : ℕ) → Scanning s a b i → n + m ≤ lo + i + 2 → Scanned s
-  scan_done s a b i w k =
-      (all_seen scanned i s (scan_of scanned) a b (omega (arith, long)) w.2, (small_on s i (n + m - lo) w.1 (omega (arith, w.0)) (omega (arith, h.4)), λ f. omega (arith, w.0, w.1.near f)))
 
 -- ---- the stores' bars
 

@@ -1,57 +1,45 @@
--- The windows that the scan passes over: one that is neither a top nor a bottom leaves it as it is, and once a fractal was taken, one that is no
--- fractal of the other mark.
+-- The windows that the scan passes over, and those that it takes.
 -- Assumes nothing.
 use Prim.Native.Nat.{ℕ, zero, suc, ◌+◌, ◌-◌, ◌≤◌, ◌<◌}
 use native.Mathlib.Omega.{arith}
-use mathlib.Core.Path.{◌≡◌, refl, ap, ◌∙◌, subst}
-use mathlib.Core.Bool.{Bool, true, false}
-use mathlib.Core.List.{List, []}
-use lib.ListN.{length, get_or}
+use mathlib.Core.Path.{◌≡◌, refl, ap, sym, ◌∙◌, subst}
+use mathlib.Core.Bool.{Bool, true, false, ◌&&◌, ◌||◌}
+use mathlib.Core.List.{List, [], ◌∷◌, ◌++◌}
+use lib.ListN.{length, get_or, take, drop, get_or-append, length-drop}
+use lib.Seq.{drop-cons, get_or-take}
 use lib.IntN.{ℤ, pos}
 use lib.Dec.{ltb}
-use lib.Ieee.{Float}
+use lib.Ieee.{Float, nan, inf, fin, lt}
 use borrow.Author.Tests.{ltb-true, ltb-false}
+use Rattle.std.specs.Prelude.{Option, Some, None, IfSome}
 use Rattle.check_bi.specs.declared.check_fx.Candle.{Candle}
 use Rattle.check_bi.specs.declared.check_fx.Fx.{Fx}
+use Rattle.check_bi.specs.declared.scan.Best.{Best}
 use Rattle.check_bi.specs.declared.scan.Scan.{Scan}
 use Rattle.machine.specs.declared.Mark.{Mark}
 use Rattle.machine.specs.declared.Mark.TheVariants.{D, G}
-use Rattle.check_bi.specs.Code.Scan.{top_of, bottom_of, fractal_of, other_of, taken_of, mark_if, fx_at, put_of, opened_of, step_of, blank, Small}
-use Rattle.check_bi.specs.Code.View.{view, candle_from}
-use Rattle.check_bi.specs.Code.Windows.{row_at, bar_at, taken_at, fx_in, NoneBetween, NextWindow, NoFractals}
-use Rattle.check_bi.proofs.ScanSteps.{step-none, step_same, step-first, step_put, after_put, after_opened, small_at}
-use Rattle.check_bi.proofs.ScanViews.{view-left, candle_on, Scanning, Scanned, scan_none, scan_began, scan_turned, scan_done}
+use Rattle.check_bi.specs.Code.Scan.{top_of, bottom_of, fractal_of, other_of, taken_of, fx_at, take_on, step_of, scan_from, scan_of, last_mark, BestFits, Small, SmallIf, ScanFits}
+use Rattle.check_bi.specs.Code.View.{candle_from, candles}
+use Rattle.check_bi.specs.Code.Windows.{row_at, bar_at, taken_at, fx_in, NoneBetween, NextWindow, FirstWindow, NextIn, NoFractals}
+use Rattle.check_bi.proofs.ScanSteps.{step_passed, step_taken}
+use Rattle.check_bi.proofs.ScanViews.{no_candle, candle_in, length-candles, small_take, small_on}
 
 -- ---- one window
 
 -- times are not read
-untimed : (none : Bool) (k : Mark) (t u w : ℤ) (p q r : List Float)
-    → taken_of none k (candle_from t p) (candle_from u q) (candle_from w r) ≡ taken_of none k (candle_from (pos 0) p) (candle_from (pos 0) q) (candle_from (pos 0) r)
+untimed : (last : Option Mark) (t u w : ℤ) (p q r : List Float)
+    → taken_of last (candle_from t p) (candle_from u q) (candle_from w r) ≡ taken_of last (candle_from (pos 0) p) (candle_from (pos 0) q) (candle_from (pos 0) r)
 unfolding taken_of fractal_of other_of top_of bottom_of candle_from
-untimed true k t u w p q r = refl
-untimed false D t u w p q r = refl
-untimed false G t u w p q r = refl
+untimed None t u w p q r = refl
+untimed (Some D) t u w p q r = refl
+untimed (Some G) t u w p q r = refl
 
-module _ (ps : List (List Float)) (none : Bool) (k : Mark) (i : ℕ) (a b c : Candle) (z : Bool) (e : z ≡ taken_of none k a b c) where
-  pub taken_is : a ≡ row_at ps i → b ≡ row_at ps (i + 1) → c ≡ row_at ps (i + 2) → z ≡ taken_at ps none k i
-  unfolding taken_at
-  taken_is p q r = e ∙ (λ j. taken_of none k (p j) (q j) (r j))
-
-  pub taken_timed : (ts : List ℤ) → a ≡ bar_at ts ps i → b ≡ bar_at ts ps (i + 1) → c ≡ bar_at ts ps (i + 2) → z ≡ taken_at ps none k i
-  unfolding taken_at row_at
-  taken_timed ts p q r =
-      e ∙ (λ j. taken_of none k (p j) (q j) (r j))
-      ∙ untimed none k (get_or ts i (pos 0)) (get_or ts (i + 1) (pos 0)) (get_or ts (i + 2) (pos 0)) (get_or ps i []) (get_or ps (i + 1) []) (get_or ps (i + 2) [])
-
-pub fx_in_lem : (ts : List ℤ) (ps : List (List Float)) (lo i : ℕ) (a b c : Candle) (k : Mark) (f : Fx) → a ≡ bar_at ts ps i → b ≡ bar_at ts ps (i + 1) → c ≡ bar_at ts ps (i + 2)
-    → k ≡ mark_if (top_of a b c) → f ≡ fx_at (i - lo) k b → f ≡ fx_in ts ps lo i
-unfolding fx_in
-fx_in_lem ts ps lo i a b c k f p q r e g =
-    g ∙ (λ j. fx_at (i - lo) (e j) b) ∙ (λ j. fx_at (i - lo) (mark_if (top_of (p j) (q j) (r j))) (q j))
-
-pub small_in : (ts : List ℤ) (ps : List (List Float)) (lo i : ℕ) (s : Scan) (f : Fx) → f ≡ fx_in ts ps lo i → Small s (i - lo) → Small s f.place
-unfolding fx_in
-small_in ts ps lo i s f e h = small_at s (i - lo) _ _ f e h
+pub taken_timed : (ts : List ℤ) (ps : List (List Float)) (last : Option Mark) (i : ℕ) (a b c : Candle) → a ≡ bar_at ts ps i → b ≡ bar_at ts ps (i + 1) → c ≡ bar_at ts ps (i + 2)
+    → taken_of last a b c ≡ taken_at ps last i
+unfolding taken_at row_at
+taken_timed ts ps last i a b c p q r =
+    (λ j. taken_of last (p j) (q j) (r j))
+    ∙ untimed last (get_or ts i (pos 0)) (get_or ts (i + 1) (pos 0)) (get_or ts (i + 2) (pos 0)) (get_or ps i []) (get_or ps (i + 1) []) (get_or ps (i + 2) [])
 
 -- ---- the windows up to a row
 
@@ -109,119 +97,210 @@ module _ (t : ℕ → Bool) (n i : ℕ) where
 pub clear_none : (ps : List (List Float)) → NoFractals ps 0
 clear_none ps j h = absurd (omega arith)
 
+get_or_past : {A : Type 0} (l : List (List A)) (i : ℕ) → length l ≤ i → get_or l i [] ≡ []
+get_or_past [] i h = refl
+get_or_past (x ∷ l) zero h = absurd (omega arith)
+get_or_past (x ∷ l) (suc i) h = get_or_past l i (omega arith)
+
+length-take-most : {A : Type 0} (n : ℕ) (l : List A) → length (take n l) ≤ n
+length-take-most zero l = omega arith
+length-take-most (suc n) [] = omega arith
+length-take-most (suc n) (x ∷ l) = let h = length-take-most n l in omega arith
+
+-- nothing is below what is no number, and it is below nothing
+nan-above : (x : Float) → lt x nan ≡ false
+unfolding lt
+nan-above nan = refl
+nan-above (inf s) = refl
+nan-above (fin s m e) = refl
+
+and_no : (b : Bool) → (b && false) ≡ false
+and_no true = refl
+and_no false = refl
+
+-- a window that reaches behind the last row holds no fractal
+past : (a b c : Candle) → c.high ≡ nan → c.low ≡ nan → taken_of None a b c ≡ false
+unfolding taken_of fractal_of top_of bottom_of
+past a b c h l =
+    (λ i. ((lt a.high b.high && lt (h i) b.high) && (lt a.low b.low && lt (l i) b.low)) || ((lt b.low a.low && lt b.low (l i)) && (lt b.high a.high && lt b.high (h i))))
+    ∙ (λ i. ((lt a.high b.high && nan-below b.high i) && (lt a.low b.low && nan-below b.low i)) || ((lt b.low a.low && nan-above b.low i) && (lt b.high a.high && nan-above b.high i)))
+    ∙ (λ i. (and_no (lt a.high b.high) i && and_no (lt a.low b.low) i) || (and_no (lt b.low a.low) i && and_no (lt b.high a.high) i))
+  where
+    nan-below : (x : Float) → lt nan x ≡ false
+    nan-below x = refl
+
+-- what holds of the windows of a store holds of its first rows
+pub clear_take : (ps : List (List Float)) (n c : ℕ) → NoFractals ps c → NoFractals (take n ps) c
+unfolding taken_at row_at candle_from
+clear_take ps n c h j l = by (ltb (j + 2) n) refl
+  where
+    by : (b : Bool) → ltb (j + 2) n ≡ b → taken_at (take n ps) None j ≡ false
+    by true q =
+        let k = ltb-true (j + 2) n q in
+        (λ i. taken_of None (candle_from (pos 0) (get_or-take n ps j [] (omega arith) i)) (candle_from (pos 0) (get_or-take n ps (j + 1) [] (omega arith) i)) (candle_from (pos 0) (get_or-take n ps (j + 2) [] k i)))
+        ∙ h j l
+    by false q =
+        let e = get_or_past (take n ps) (j + 2) (omega (arith, length-take-most n ps, ltb-false (j + 2) n q)) in
+        past (candle_from (pos 0) (get_or (take n ps) j [])) (candle_from (pos 0) (get_or (take n ps) (j + 1) [])) (candle_from (pos 0) (get_or (take n ps) (j + 2) []))
+        (ap (λ (r : List Float). get_or r 2 nan) e) (ap (λ (r : List Float). get_or r 3 nan) e)
+
 -- where the first c windows hold no fractal, the scan may begin at row j instead of row i
-pub clear_until : (ps : List (List Float)) (c n i j : ℕ) → NoFractals ps c → (i ≤ j) × (i < j → (j ≤ c) × (j + 1 < n)) → NoneBetween (taken_at ps true D) n i j
+pub clear_until : (ps : List (List Float)) (c n i j : ℕ) → NoFractals ps c → (i ≤ j) × (i < j → (j ≤ c) × (j + 1 < n)) → NoneBetween (taken_at ps None) n i j
 clear_until ps c n i j h w =
     record { from = w.0; within = λ l. (w.1 l).1; none = λ k x y. h k (omega (arith, (w.1 (omega arith)).0)) }
 
 -- the windows that lie in the store are those of the view
-module _ (ps qs : List (List Float)) (n m : ℕ) (hp : n ≤ length ps) (hq : m ≤ length qs) (none : Bool) (k : Mark) where
-  row : (i : ℕ) → i < n → get_or (view n ps m qs) i [] ≡ get_or ps i []
-  row i g = view-left ps qs n m hp hq i [] g
-
-  in_store : (p : ℕ) → p + 2 < n → taken_at (view n ps m qs) none k p ≡ taken_at ps none k p
+module _ (ps qs : List (List Float)) (last : Option Mark) where
+  in_store : (p : ℕ) → p + 2 < length ps → taken_at (ps ++ qs) last p ≡ taken_at ps last p
   unfolding taken_at row_at
   in_store p g =
-      λ j. taken_of none k (candle_from (pos 0) (row p (omega arith) j)) (candle_from (pos 0) (row (p + 1) (omega arith) j)) (candle_from (pos 0) (row (p + 2) g j))
+      λ j. taken_of last (candle_from (pos 0) (get_or-append ps qs [] p (omega arith) j)) (candle_from (pos 0) (get_or-append ps qs [] (p + 1) (omega arith) j)) (candle_from (pos 0) (get_or-append ps qs [] (p + 2) g j))
 
-  pub store-none : (i r : ℕ) → NoneBetween (taken_at ps none k) n i r → NoneBetween (taken_at (view n ps m qs) none k) (n + m) i r
-  store-none i r g =
+  pub store-none : (N i r : ℕ) → length ps ≤ N → NoneBetween (taken_at ps last) (length ps) i r → NoneBetween (taken_at (ps ++ qs) last) N i r
+  store-none N i r l g =
       record {
         from = g.from;
-        within = λ l. omega (arith, g.within l);
+        within = λ k. omega (arith, g.within k);
         none = λ j x y. in_store j (omega (arith, g.within (omega arith))) ∙ g.none j x y;
       }
 
--- ---- the scan of the view from place lo on
+-- none is left behind row j
+pub none_left : (t : ℕ → Bool) (N i j : ℕ) → NoneBetween t N i j → N ≤ j + 2 → NextIn t N i None
+none_left t N i j w l k x y = w.none k x (omega arith)
 
-module _ (ts us : List ℤ) (ps qs : List (List Float)) (n m lo : ℕ)
-    (h : (n ≤ length ts) × (n ≤ length ps) × (m ≤ length us) × (m ≤ length qs) × (n + m < 4294967296) × (lo ≤ n + m)) where
+-- ---- the scan of these bars from place lo on
+
+module _ (ts : List ℤ) (ps : List (List Float)) (lo N : ℕ) where
+  abbrev scanned : List Candle
+  scanned = drop lo (candles ts ps)
+
   abbrev bar : ℕ → Candle
-  bar i = candle_on ts us ps qs n m lo h i
+  bar i = bar_at ts ps i
 
-  -- what holds whenever the loop tests; place p is the k-th from lo on
-  abbrev pub Standing : Scan → ℕ → ℕ → Type 0
-  Standing s p k = (lo + k ≡ p) × Scanning ts us ps qs n m lo h s (bar p) (bar (p + 1)) k
+  -- what holds whenever the scan looks for its next window, at place p
+  pub record Standing (s : Option Scan) (p : ℕ) : Type 0 where
+    pub from : lo ≤ p
+    pub within : lo < p → p + 1 < N
+    pub small : SmallIf s (p - lo)
+    pub goes : scan_from (p - lo) s (drop (p - lo) scanned) ≡ scan_of scanned
 
-  on : (s s' : Scan) (p k : ℕ) → Standing s p k → p + 2 < n + m → s' ≡ step_of s k (bar p) (bar (p + 1)) (bar (p + 2)) → Standing s' (p + 1) (k + 1)
-  on s s' p k w g e =
-      let f = w.0 in
-      let x : p + 2 ≡ lo + k + 2 = omega arith in
-      let y : p + 2 ≡ p + 1 + 1 = omega arith in
-      let z = scan_turned ts us ps qs n m lo h s s' (bar p) (bar (p + 1)) (bar (p + 2)) k w.1 (omega arith) (ap bar x) e in
-      (omega arith, subst (λ (j : ℕ). Scanning ts us ps qs n m lo h s' (bar (p + 1)) (bar j) (k + 1)) y z)
+  module _ (lt : length ts ≡ N) (lp : length ps ≡ N) (fit : N < 4294967296) (le : lo ≤ N) where
+    long : length scanned ≡ N - lo
+    long = length-candles ts ps lo (lt ∙ sym lp) ∙ ap (λ (k : ℕ). k - lo) lt
 
-  abbrev rows : List (List Float)
-  rows = view n ps m qs
+    at : (p : ℕ) → lo ≤ p → p < N → drop (p - lo) scanned ≡ bar p ∷ drop (p + 1 - lo) scanned
+    at p h k =
+        let e : lo + (p - lo) ≡ p = omega arith in
+        let q : suc (p - lo) ≡ p + 1 - lo = omega arith in
+        drop-cons scanned (p - lo) no_candle (omega (arith, long))
+        ∙ (λ i. (candle_in ts ps lo (p - lo) (lt ∙ sym lp) (omega (arith, lt)) i) ∷ drop (q i) scanned)
+        ∙ ap (λ (j : ℕ). bar j ∷ drop (p + 1 - lo) scanned) e
 
-  timed : (none : Bool) (k : Mark) (p : ℕ) → taken_of none k (bar p) (bar (p + 1)) (bar (p + 2)) ≡ taken_at rows none k p
-  timed none k p = taken_timed rows none k p (bar p) (bar (p + 1)) (bar (p + 2)) _ refl (view n ts m us) refl refl refl
+    three : (p : ℕ) → lo ≤ p → p + 2 < N → drop (p - lo) scanned ≡ bar p ∷ bar (p + 1) ∷ bar (p + 2) ∷ drop (p + 3 - lo) scanned
+    three p h k =
+        let e : p + 1 + 1 ≡ p + 2 = omega arith in
+        let f : p + 2 + 1 ≡ p + 3 = omega arith in
+        at p h (omega arith)
+        ∙ ap (bar p ∷◌) (at (p + 1) (omega arith) (omega arith) ∙ ap (λ (j : ℕ). bar (p + 1) ∷ drop (j - lo) scanned) e)
+        ∙ ap (λ (l : List Candle). bar p ∷ bar (p + 1) ∷ l) (at (p + 2) (omega arith) k ∙ ap (λ (j : ℕ). bar (p + 2) ∷ drop (j - lo) scanned) f)
 
-  -- a window that fails the test t leaves the scan as it is
-  abbrev Passes : (ℕ → Bool) → Scan → Type 0
-  Passes t s = (p k : ℕ) → t p ≡ false → s ≡ step_of s k (bar p) (bar (p + 1)) (bar (p + 2))
+    turn : (s s' : Option Scan) (p : ℕ) → lo ≤ p → p + 2 < N → s' ≡ step_of s (p - lo) (bar p) (bar (p + 1)) (bar (p + 2))
+        → scan_from (p - lo) s (drop (p - lo) scanned) ≡ scan_from (p + 1 - lo) s' (drop (p + 1 - lo) scanned)
+    unfolding scan_from
+    turn s s' p h k e =
+        let q : p - lo + 1 ≡ p + 1 - lo = omega arith in
+        let x : p + 1 + 1 ≡ p + 2 = omega arith in
+        let y' : p + 2 + 1 ≡ p + 3 = omega arith in
+        ap (scan_from (p - lo) s) (three p h k)
+        ∙ (λ i. scan_from (q i) (sym e i) (bar (p + 1) ∷ bar (p + 2) ∷ drop (p + 3 - lo) scanned))
+        ∙ ap (scan_from (p + 1 - lo) s') (sym (at (p + 1) (omega arith) (omega arith) ∙ ap (bar (p + 1) ∷◌) (ap (λ (j : ℕ). drop (j - lo) scanned) x ∙ at (p + 2) (omega arith) k ∙ ap (λ (j : ℕ). bar (p + 2) ∷ drop (j - lo) scanned) y')))
 
-  passed : (s : Scan) (j : Mark) → Passes (taken_at rows true j) s
-  unfolding taken_of
-  passed s j p k e = step-none s k (bar p) (bar (p + 1)) (bar (p + 2)) (timed true j p ∙ e)
+    on : (s s' : Option Scan) (p : ℕ) → Standing s p → p + 2 < N → s' ≡ step_of s (p - lo) (bar p) (bar (p + 1)) (bar (p + 2)) → SmallIf s' (p + 1 - lo) → Standing s' (p + 1)
+    on s s' p w k e h =
+        let f = w.from in
+        record { from = omega arith; within = λ x. omega arith; small = h; goes = sym (turn s s' p f k e) ∙ w.goes }
 
-  passed-same : (s : Scan) (j : Mark) → s.last ≡ j → 0 < s.count → Passes (taken_at rows false j) s
-  unfolding taken_of
-  passed-same s j f g p k e = step_same j s k (bar p) (bar (p + 1)) (bar (p + 2)) f (λ z. omega arith) (timed false j p ∙ e)
+    timed : (last : Option Mark) (p : ℕ) → taken_of last (bar p) (bar (p + 1)) (bar (p + 2)) ≡ taken_at ps last p
+    timed last p = taken_timed ts ps last p (bar p) (bar (p + 1)) (bar (p + 2)) refl refl refl
 
-  run : (t : ℕ → Bool) (d p k r z : ℕ) (s : Scan) → p + d ≡ r → k + d ≡ z → (p < r → r + 1 < n + m) → Passes t s → ((j : ℕ) → p ≤ j → j < r → t j ≡ false) → Standing s p k → Standing s r z
-  run t zero p k r z s e f b o q w =
-      let x : p ≡ r = omega arith in
-      let y : k ≡ z = omega arith in
-      subst (λ (j : ℕ). Standing s j z) x (subst (λ (j : ℕ). Standing s p j) y w)
-  run t (suc d) p k r z s e f b o q w =
-      let l : p < r = omega arith in
-      let g = b l in
-      run t d (p + 1) (k + 1) r z s (omega arith) (omega arith) (λ v. g) o (λ j v u. q j (omega arith) u)
-      (on s s p k w (omega arith) (o p k (q p (omega arith) l)))
+    run : (d p r : ℕ) (s : Option Scan) → p + d ≡ r → Standing s p → (p < r → r + 1 < N) → ((j : ℕ) → p ≤ j → j < r → taken_at ps (last_mark s) j ≡ false) → Standing s r
+    run zero p r s e w b o = let x : p ≡ r = omega arith in subst (Standing s) x w
+    run (suc d) p r s e w b o =
+        let l : p < r = omega arith in
+        let g = b l in
+        let f = w.from in
+        run d (p + 1) r s (omega arith)
+        (on s s p w (omega arith) (step_passed s (p - lo) (bar p) (bar (p + 1)) (bar (p + 2)) (timed (last_mark s) p ∙ o p (omega arith) l)) (small_on s (p - lo) (p + 1 - lo) (omega arith) (omega arith) w.small))
+        (λ v. g) (λ j v u. o j (omega arith) u)
 
-  ran : (t : ℕ → Bool) (s : Scan) (p k r : ℕ) → NextWindow t (n + m) p r → Passes t s → Standing s p k → Standing s r (r - lo)
-  ran t s p k r g o w =
-      let f = g.before.from in
-      let e = w.0 in
-      run t (r - p) p k r (r - lo) s (omega arith) (omega arith) g.before.within o g.before.none w
+    passed : (s : Option Scan) (p r : ℕ) → Standing s p → NoneBetween (taken_at ps (last_mark s)) N p r → Standing s r
+    passed s p r w g = let f = g.from in run (r - p) p r s (omega arith) w g.within g.none
 
-  first : (s : Scan) (r : ℕ) → s ≡ blank → lo + 2 ≤ n + m → NextWindow (taken_at rows true D) (n + m) lo r → Standing s r (r - lo)
-  first s r e k g =
-      ran (taken_at rows true D) s lo 0 r g (passed s D) (omega arith, scan_began ts us ps qs n m lo h s (bar lo) (bar (lo + 1)) e k refl refl)
+    -- before the first window
+    pub begun : (p : ℕ) → NoneBetween (taken_at ps None) N lo p → Standing None p
+    unfolding scan_of scan_from
+    begun p g =
+        let z : lo - lo ≡ 0 = omega arith in
+        passed None lo p (record { from = omega arith; within = λ h. absurd (omega arith); small = tt; goes = zero_on (lo - lo) z }) g
+      where
+        zero_on : (k : ℕ) → k ≡ 0 → scan_from k None (drop k scanned) ≡ scan_of scanned
+        zero_on k e = ap (λ (j : ℕ). scan_from j None (drop j scanned)) e
 
-  done : (s : Scan) (p : ℕ) → Standing s p (p - lo) → n + m ≤ p + 2 → Scanned ts us ps qs n m lo h s
-  done s p w k = let e = w.0 in scan_done ts us ps qs n m lo h s (bar p) (bar (p + 1)) (p - lo) w.1 (omega arith)
+    -- the window at place r, of which nothing is too large
+    pub small_here : (s : Option Scan) (p r : ℕ) (f : Fx) → Standing s p → FirstWindow (taken_at ps (last_mark s)) N p r → f ≡ fx_in ts ps lo r → SmallIf s f.place
+    unfolding fx_in fx_at
+    small_here s p r f w g e = subst (SmallIf s) (sym (ap (λ (x : Fx). x.place) e)) (passed s p r w g.before).small
 
-  -- the scan took a fractal, and stands at the next window that it takes
-  abbrev pub Turning : Scan → ℕ → Type 0
-  Turning s p = Standing s p (p - lo) × (0 < s.count) × (p + 2 < n + m → taken_at rows false s.last p ≡ true)
+    -- it is taken
+    pub taken_on : (s : Option Scan) (p r : ℕ) (f : Fx) (k : Scan) → Standing s p → FirstWindow (taken_at ps (last_mark s)) N p r → f ≡ fx_in ts ps lo r → k ≡ take_on s f → Standing (Some k) (r + 1)
+    unfolding fx_in fx_at
+    taken_on s p r f k w g e o =
+        let q = passed s p r w g.before in
+        let l = q.from in
+        let n = g.fits in
+        let z : f.place ≡ r - lo = ap (λ (x : Fx). x.place) e in
+        let y : f.place + 1 ≡ r + 1 - lo = omega arith in
+        let d = step_taken s (r - lo) (bar r) (bar (r + 1)) (bar (r + 2)) (timed (last_mark s) r ∙ g.here) in
+        on s (Some k) r q n (ap Some o ∙ ap (λ (x : Fx). Some (take_on s x)) e ∙ d)
+        (subst (λ (x : ℕ). Small k x) y (subst (λ (x : Scan). Small x (f.place + 1)) (sym o) (small_take s f (small_here s p r f w g e) (omega arith))))
 
-  turning : (s : Scan) (k : Mark) (p r : ℕ) → Standing s (p + 1) (p - lo + 1) → (s.last ≡ k) × (0 < s.count) → NextWindow (taken_at rows false k) (n + m) (p + 1) r → Turning s r
-  turning s k p r w l g =
-      (ran (taken_at rows false k) s (p + 1) (p - lo + 1) r g (passed-same s k l.0 l.1) w, l.1, λ z. ap (λ (j : Mark). taken_at rows false j r) l.0 ∙ g.here z)
+    near_in : (o : Option Best) (n b i : ℕ) → IfSome o (BestFits n b i) → (0 < i → i + 1 < N - lo) → IfSome o (λ b. b.end.place + 2 < N - lo)
+    near_in None n b i h l = tt
+    near_in (Some x) n b i h l = let q = h.near in omega (arith, l (omega arith))
 
-  pub windows_none : (s : Scan) (r : ℕ) → s ≡ blank → NextWindow (taken_at rows true D) (n + m) lo r → n + m ≤ r + 2 → Scanned ts us ps qs n m lo h s
-  windows_none s r e g k = by (ltb (n + m) (lo + 2)) refl
-    where
-      by : (b : Bool) → ltb (n + m) (lo + 2) ≡ b → Scanned ts us ps qs n m lo h s
-      by true q = scan_none ts us ps qs n m lo h s e (ltb-true (n + m) (lo + 2) q)
-      by false q = done s r (first s r e (ltb-false (n + m) (lo + 2) q) g) k
+    fits : (s : Option Scan) (p : ℕ) → Standing s p → ScanFits s (N - lo)
+    fits None p w = tt
+    fits (Some s) p w =
+        let f = w.from in
+        let e = p - lo in
+        record { small = upto w.small (omega arith); best = near_in s.best s.count s.start.place (p - lo) w.small.best (λ h. omega (arith, w.within (omega arith))) }
+      where
+        upto : Small s (p - lo) → p - lo ≤ p - lo → Small s (N - lo)
+        upto h q = small_on (Some s) (p - lo) (N - lo) (reach w.from (ltb lo p) refl) (omega arith) h
+          where
+            reach : lo ≤ p → (b : Bool) → ltb lo p ≡ b → p - lo ≤ N - lo
+            reach f true x = omega (arith, w.within (ltb-true lo p x))
+            reach f false x = omega (arith, ltb-false lo p x)
 
-  pub windows_opened : (f : Fx) (s : Scan) (p r : ℕ) → NextWindow (taken_at rows true D) (n + m) lo p → p + 2 < n + m → f ≡ fx_in (view n ts m us) rows lo p → s ≡ opened_of f
-      → NextWindow (taken_at rows false f.mark) (n + m) (p + 1) r → Turning s r
-  unfolding fx_in taken_of
-  windows_opened f s p r g k e o q =
-      let x = g.before.from in
-      let d = step-first (p - lo) (bar p) (bar (p + 1)) (bar (p + 2)) f s (timed true D p ∙ g.here k) e o in
-      turning s f.mark p r (on blank s p (p - lo) (first blank p refl (omega arith) g) k d) (after_opened s f o) q
+    -- no window is left to take
+    few : (i : ℕ) (s : Option Scan) (v : List Candle) → length v ≤ 2 → scan_from i s v ≡ s
+    unfolding scan_from
+    few i s [] h = refl
+    few i s (a ∷ []) h = refl
+    few i s (a ∷ b ∷ []) h = refl
+    few i s (a ∷ b ∷ c ∷ v) h = absurd (omega arith)
 
-  pub windows_put : (s s' : Scan) (f : Fx) (p r : ℕ) → Turning s p → p + 2 < n + m → f ≡ fx_in (view n ts m us) rows lo p → s' ≡ put_of s f
-      → NextWindow (taken_at rows false f.mark) (n + m) (p + 1) r → Turning s' r
-  unfolding fx_in taken_of
-  windows_put s s' f p r w g e o q =
-      let d = step_put s.last s (p - lo) (bar p) (bar (p + 1)) (bar (p + 2)) f s' refl w.1 (timed false s.last p ∙ w.2 g) e o in
-      turning s' f.mark p r (on s s' p (p - lo) w.0 g d) (after_put s s' f o) q
+    ended : (s : Option Scan) (p : ℕ) → Standing s p → N ≤ p + 2 → (s ≡ scan_of scanned) × ScanFits s (N - lo)
+    ended s p w h = let f = w.from in (sym (few (p - lo) s (drop (p - lo) scanned) (omega (arith, rest))) ∙ w.goes, fits s p w)
+      where
+        rest : length (drop (p - lo) scanned) ≡ N - lo - (p - lo)
+        rest = length-drop (p - lo) scanned ∙ ap (λ (k : ℕ). k - (p - lo)) long
 
-  pub windows_done : (s : Scan) (p : ℕ) → Turning s p → n + m ≤ p + 2 → Scanned ts us ps qs n m lo h s
-  windows_done s p w l = done s p w.0 l
+    pub all_seen : (s : Option Scan) (p : ℕ) → Standing s p → NextIn (taken_at ps (last_mark s)) N p None → (s ≡ scan_of scanned) × ScanFits s (N - lo)
+    all_seen s p w g = by (ltb (p + 2) N) refl
+      where
+        by : (b : Bool) → ltb (p + 2) N ≡ b → (s ≡ scan_of scanned) × ScanFits s (N - lo)
+        by true q =
+            let x = ltb-true (p + 2) N q in
+            ended s (N - 2) (passed s p (N - 2) w (record { from = omega arith; within = λ h. omega arith; none = λ j h k. g j h (omega arith) })) (omega arith)
+        by false q = ended s p w (ltb-false (p + 2) N q)

@@ -1,8 +1,12 @@
-// The search for a stroke among the unfinished bars where they lie: check_fx.rt has check_fx of the source, scan.rt has check_bi, in one pass.
+// The search for a stroke among the unfinished bars where they lie: check_fx.rt has check_fx of the source, scan.rt and windows.rt have check_bi, in one pass.
 #![tactic(auto)]
 
 mod check_fx;
 mod scan;
+mod view;
+mod windows;
 
-pub use check_fx::{Candle, Fx, is_bottom, is_top, same_mark};
-pub use scan::{FoundBi, Scan, candle_at, check_bi, found_bi, next_row, no_bi, scan_from};
+pub use check_fx::{Candle, Fx, is_bottom, is_top};
+pub use scan::{Best, FoundBi, Scan, found_bi};
+pub use view::View;
+pub use windows::next_row;

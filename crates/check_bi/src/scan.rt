@@ -1,30 +1,31 @@
-// The search for a stroke in one pass over the unfinished bars.
-ghost use Rattle.std.specs.Prelude.{◌≡◌, true, false, [], ◌+◌, ◌-◌, ◌≤◌, ◌<◌, length, get_or, drop, pos};
-ghost use Rattle.check_bi.specs.Code.Scan.{candidate_of, cut_with, closes_of, upto_with, put_of, no_fx, blank, opened_of, Small, scan_of, holds_of, found_if, found_of, found_from, FoundFits};
-ghost use Rattle.check_bi.specs.Code.View.{view, candle_from, candles};
-ghost use Rattle.check_bi.specs.Code.Windows.{row_at, taken_at, fx_in, NextWindow, NoFractals};
+// The search for a stroke in one pass over the unfinished bars: what a scan has seen, and what check_bi makes of it.
+ghost use Rattle.std.specs.Prelude.{◌≡◌, ◌<◌, IfSome};
+ghost use Rattle.check_bi.specs.Code.Scan.{candidate_of, cut_with, closes_of, grown, best_with, put_of, opened_of, take_on, Small, SmallIf, EndFits, holds_of, found_of};
 
-use super::check_fx::{Candle, Fx, fractal_mark, fx_at, is_beyond, is_taken, same_mark, value};
+use crate::check_fx::{Fx, is_beyond};
 use machine::Mark;
 
-// What has been seen so far: how many fractals were taken, the last one's mark, the first one, the
-// one that the first stroke's cut would begin on, the best candidate, if there is one, and how many
-// fractals the stroke to it has.
+// The best candidate so far, and how many fractals the stroke to it has.
+#[derive(Clone, Copy)]
+pub struct Best {
+    pub end: Fx,
+    pub upto: usize,
+}
+
+// What has been seen since the first fractal: how many fractals were taken, the last one's mark, the first one, the
+// one that the first stroke's cut would begin on, and the best candidate, if there is one.
 #[derive(Clone, Copy)]
 pub struct Scan {
     pub count: usize,
     pub last: Mark,
     pub start: Fx,
     pub cut: Fx,
-    pub found: bool,
-    pub end: Fx,
-    pub upto: usize,
+    pub best: Option<Best>,
 }
 
-// What check_bi finds, by place: whether a stroke is made, and then its ends and how many merged bars and fractals it has.
+// A stroke that check_bi finds, by place: its ends and how many merged bars and fractals it has.
 #[derive(Clone, Copy)]
 pub struct FoundBi {
-    pub made: bool,
     pub start: Fx,
     pub end: Fx,
     pub bars: usize,
@@ -32,423 +33,139 @@ pub struct FoundBi {
 }
 
 // Whether f can end a stroke from s.
+#[tactic(auto, using(crate::proofs::Marks::same_is), unfolding(crate::specs::Code::Scan::candidate_of))]
 fn is_candidate(s: Fx, f: Fx) -> bool
     ensures { result ≡ candidate_of s f }
 {
-    let m = s.mark;
-    let k = f.mark;
-    if same_mark(m, k) {
-        return false;
-    }
-    if s.time < f.time {
-        let x = value(f);
-        let y = value(s);
-        return is_beyond(k, x, y);
-    }
-    false
+    s.mark != f.mark && s.time < f.time && is_beyond(f.mark, f.value(), s.value())
 }
 
 // The one to cut on: the most extreme of the first one's mark, the last if tied.
+#[tactic(auto, using(crate::proofs::Marks::same_is), unfolding(crate::specs::Code::Scan::cut_with, machine::specs::Strokes::best_if))]
 fn cut_with(a: Fx, f: Fx) -> Fx
     ensures { result ≡ cut_with a f }
 {
-    let m = a.mark;
-    let k = f.mark;
-    if same_mark(m, k) {
-        let x = value(a);
-        let y = value(f);
-        if is_beyond(m, x, y) {
-            return a;
-        }
+    if a.mark == f.mark && !is_beyond(a.mark, a.value(), f.value()) {
         return f;
     }
     a
 }
 
-// Whether f becomes the end.
-fn closes(s: Scan, f: Fx) -> bool
-    ensures { result ≡ closes_of s f }
-{
-    let start = s.start;
-    if is_candidate(start, f) {
-        if s.found {
-            let end = s.end;
-            let m = f.mark;
-            let x = value(f);
-            let y = value(end);
-            return is_beyond(m, x, y);
+impl Best {
+    // With one more fractal, at place i, that does not become the end: it counts where it is centred on a bar of the stroke.
+    #[tactic(auto, unfolding(crate::specs::Code::Scan::grown, crate::specs::Code::Scan::upto_if))]
+    fn grown(self, i: usize) -> Best
+        requires { (self.end.place < 4294967296) × (self.upto < 4294967296) }
+        ensures { result ≡ grown self i }
+    {
+        if i <= self.end.place + 1 {
+            return Best {
+                end: self.end,
+                upto: self.upto + 1,
+            };
         }
-        return true;
+        self
     }
-    false
 }
 
-// How many fractals the stroke so far has, with one at place i that does not become its end.
-fn upto_with(s: Scan, i: usize) -> usize
-    requires { Small s i }
-    ensures { result ≡ upto_with s i }
-{
-    let end = s.end;
-    let e = end.place;
-    if s.found {
-        if i <= e + 1 {
-            return s.upto + 1;
+impl Scan {
+    // Whether f becomes the end.
+    #[tactic(auto, unfolding(crate::specs::Code::Scan::closes_of, crate::specs::Code::Scan::closes_if))]
+    fn closes(self, f: Fx) -> bool
+        ensures { result ≡ closes_of self f }
+    {
+        if !is_candidate(self.start, f) {
+            return false;
+        }
+        match self.best {
+            None => true,
+            Some(b) => is_beyond(f.mark, f.value(), b.end.value()),
         }
     }
-    s.upto
-}
 
-// A fractal after the first is taken.
-fn put(s: Scan, f: Fx) -> Scan
-    requires { Small s f.place }
-    ensures { result ≡ put_of s f }
-{
-    let start = s.start;
-    let old = s.cut;
-    let cut = cut_with(old, f);
-    let n = s.count + 1;
-    let m = f.mark;
-    let i = f.place;
-    if closes(s, f) {
-        return Scan {
-            count: n,
-            last: m,
-            start: start,
-            cut: cut,
-            found: true,
-            end: f,
-            upto: n,
-        };
+    // The best candidate once f is taken.
+    #[tactic(auto, unfolding(crate::specs::Code::Scan::best_with, crate::specs::Code::Scan::best_if_new))]
+    fn best_with(self, f: Fx) -> Option<Best>
+        requires { Small self f.place }
+        ensures { result ≡ best_with self f }
+    {
+        if self.closes(f) {
+            return Some(Best {
+                end: f,
+                upto: self.count + 1,
+            });
+        }
+        match self.best {
+            None => None,
+            Some(b) => Some(b.grown(f.place)),
+        }
     }
-    let u = upto_with(s, i);
-    let end = s.end;
-    Scan {
-        count: n,
-        last: m,
-        start: start,
-        cut: cut,
-        found: s.found,
-        end: end,
-        upto: u,
-    }
-}
 
-fn no_fx() -> Fx
-    ensures { result ≡ no_fx }
-{
-    let m = Mark::D;
-    Fx {
-        place: 0,
-        mark: m,
-        time: 0,
-        high: 0.0,
-        low: 0.0,
-    }
-}
-
-// Before the first window.
-fn blank_scan() -> Scan
-    ensures { result ≡ blank }
-{
-    let z = no_fx();
-    let m = Mark::D;
-    Scan {
-        count: 0,
-        last: m,
-        start: z,
-        cut: z,
-        found: false,
-        end: z,
-        upto: 0,
+    // A fractal after the first is taken.
+    #[tactic(auto, unfolding(crate::specs::Code::Scan::put_of))]
+    fn put(self, f: Fx) -> Scan
+        requires { Small self f.place }
+        ensures { result ≡ put_of self f }
+    {
+        Scan {
+            count: self.count + 1,
+            last: f.mark,
+            start: self.start,
+            cut: cut_with(self.cut, f),
+            best: self.best_with(f),
+        }
     }
 }
 
 // The first fractal is taken.
+#[tactic(auto, unfolding(crate::specs::Code::Scan::opened_of))]
 fn opened(f: Fx) -> Scan
     ensures { result ≡ opened_of f }
 {
-    let m = f.mark;
     Scan {
         count: 1,
-        last: m,
+        last: f.mark,
         start: f,
         cut: f,
-        found: false,
-        end: f,
-        upto: 0,
+        best: None,
     }
 }
 
-// The candle at a place of the view: the first n bars of the store, of times ts and prices ps, then
-// the first m of the tail, of times us and prices qs.
-pub fn candle_at(
-    ts: &[i64],
-    ps: &[[f64; 6]],
-    us: &[i64],
-    qs: &[[f64; 6]],
-    n: usize,
-    m: usize,
-    i: usize,
-) -> Candle
-    requires { (n ≤ length ts.now) × (n ≤ length ps.now) × (m ≤ length us.now) × (m ≤ length qs.now) × (i < n + m) }
-    ensures { result ≡ candle_from (get_or (view n ts.now m us.now) i (pos 0)) (get_or (view n ps.now m qs.now) i []) }
+// A fractal is taken.
+#[tactic(auto, unfolding(crate::specs::Code::Scan::take_on))]
+pub fn take(seen: Option<Scan>, f: Fx) -> Scan
+    requires { SmallIf seen f.place }
+    ensures { result ≡ take_on seen f }
 {
-    if i < n {
-        let t = ts[i];
-        let p = ps[i];
-        return Candle {
-            time: t,
-            high: p[2],
-            low: p[3],
-        };
-    }
-    let j = i - n;
-    let t = us[j];
-    let p = qs[j];
-    Candle {
-        time: t,
-        high: p[2],
-        low: p[3],
+    match seen {
+        None => opened(f),
+        Some(s) => s.put(f),
     }
 }
 
 // One range strictly holds the other's on both sides.
+#[tactic(auto, unfolding(crate::specs::Code::Scan::holds_of))]
 fn holds(a: Fx, b: Fx) -> bool
     ensures { result ≡ holds_of a b }
 {
-    if b.high < a.high {
-        return a.low < b.low;
-    }
-    if a.high < b.high {
-        return b.low < a.low;
-    }
-    false
-}
-
-// The high and low of row i, as a candle without its time.
-fn row_at(ps: &[[f64; 6]], i: usize) -> Candle
-    requires { i < length ps.now }
-    ensures { result ≡ row_at ps.now i }
-{
-    let p = ps[i];
-    Candle {
-        time: 0,
-        high: p[2],
-        low: p[3],
-    }
-}
-
-// Whether a scan takes the window at row i.
-fn taken_at(ps: &[[f64; 6]], none: bool, k: Mark, i: usize) -> bool
-    requires { (i + 2 < length ps.now) × (i < 4294967296) }
-    ensures { result ≡ taken_at ps.now none k i }
-{
-    let a = row_at(ps, i);
-    let b = row_at(ps, i + 1);
-    let c = row_at(ps, i + 2);
-    is_taken(none, k, a, b, c)
-}
-
-// The first window of the first n rows, from row i on, that a scan takes.
-pub fn next_row(ps: &[[f64; 6]], none: bool, k: Mark, n: usize, i: usize) -> usize
-    requires { (n ≤ length ps.now) × (n < 4294967296) × (i < 4294967296) }
-    ensures { NextWindow (taken_at ps.now none k) n i result }
-{
-    let mut j = i;
-    while j + 2 < n {
-        if taken_at(ps, none, k, j) {
-            return j;
-        } else {
-            j += 1;
-        }
-    }
-    j
-}
-
-// Whether a scan takes the window at place i of the view.
-fn taken_in(
-    ts: &[i64],
-    ps: &[[f64; 6]],
-    us: &[i64],
-    qs: &[[f64; 6]],
-    n: usize,
-    m: usize,
-    none: bool,
-    k: Mark,
-    i: usize,
-) -> bool
-    requires { (n ≤ length ts.now) × (n ≤ length ps.now) × (m ≤ length us.now) × (m ≤ length qs.now) × (n + m < 4294967296) × (i + 2 < n + m) }
-    ensures { result ≡ taken_at (view n ps.now m qs.now) none k i }
-{
-    let a = candle_at(ts, ps, us, qs, n, m, i);
-    let b = candle_at(ts, ps, us, qs, n, m, i + 1);
-    let c = candle_at(ts, ps, us, qs, n, m, i + 2);
-    is_taken(none, k, a, b, c)
-}
-
-// The first window of the view, from place i on, that a scan takes: one that lies in the store's rows, or else one that reaches into the tail. The scan,
-// which is large, is moved for these windows only.
-fn next_window(
-    ts: &[i64],
-    ps: &[[f64; 6]],
-    us: &[i64],
-    qs: &[[f64; 6]],
-    n: usize,
-    m: usize,
-    none: bool,
-    k: Mark,
-    i: usize,
-) -> usize
-    requires { (n ≤ length ts.now) × (n ≤ length ps.now) × (m ≤ length us.now) × (m ≤ length qs.now) × (n + m < 4294967296) × (i < 4294967296) }
-    ensures { NextWindow (taken_at (view n ps.now m qs.now) none k) (n + m) i result }
-{
-    let total = n + m;
-    let mut j = next_row(ps, none, k, n, i);
-    while j + 2 < total {
-        if taken_in(ts, ps, us, qs, n, m, none, k, j) {
-            return j;
-        } else {
-            j += 1;
-        }
-    }
-    j
-}
-
-// The fractal at place i of the view; its place is counted from lo.
-fn fractal_in(
-    ts: &[i64],
-    ps: &[[f64; 6]],
-    us: &[i64],
-    qs: &[[f64; 6]],
-    n: usize,
-    m: usize,
-    lo: usize,
-    i: usize,
-) -> Fx
-    requires { (n ≤ length ts.now) × (n ≤ length ps.now) × (m ≤ length us.now) × (m ≤ length qs.now) × (n + m < 4294967296) × (i + 2 < n + m) × (lo ≤ i) }
-    ensures { result ≡ fx_in (view n ts.now m us.now) (view n ps.now m qs.now) lo i }
-{
-    let a = candle_at(ts, ps, us, qs, n, m, i);
-    let b = candle_at(ts, ps, us, qs, n, m, i + 1);
-    let c = candle_at(ts, ps, us, qs, n, m, i + 2);
-    let k = fractal_mark(a, b, c);
-    fx_at(i - lo, k, b)
-}
-
-// Where to look for the first fractal of the view from place lo on, if the first `clear` windows of the store's rows hold none: behind those of them that lie in
-// the first n rows, which are the view's windows too.
-fn look_from(n: usize, lo: usize, clear: usize) -> usize
-    ensures { (lo ≤ result) × (lo < result → (result ≤ clear) × (result + 1 < n)) }
-{
-    if clear <= lo {
-        return lo;
-    }
-    if n < 2 {
-        return lo;
-    }
-    let whole = n - 2;
-    if clear <= whole {
-        return clear;
-    }
-    if lo <= whole {
-        return whole;
-    }
-    lo
-}
-
-// All windows of the view from place lo on. Places are counted from there. A caller that knows that the first `clear` windows of the store's rows hold no
-// fractal says so, and they are not looked at again: a series that only rises would be looked through from its beginning for every bar. 0 is always true.
-pub fn scan_from(
-    ts: &[i64],
-    ps: &[[f64; 6]],
-    us: &[i64],
-    qs: &[[f64; 6]],
-    n: usize,
-    m: usize,
-    lo: usize,
-    clear: usize,
-) -> Scan
-    requires fact_1 { (n ≤ length ts.now) × (n ≤ length ps.now) × (m ≤ length us.now) × (m ≤ length qs.now) × (n + m < 4294967296) × (lo ≤ n + m) }
-    requires fact_2 { NoFractals ps.now clear }
-    ensures value { result ≡ scan_of (drop lo (candles (view n ts.now m us.now) (view n ps.now m qs.now))) }
-    ensures small { Small result (n + m - lo) × (result.found ≡ true → result.end.place + 2 < n + m - lo) }
-{
-    let total = n + m;
-    let d = Mark::D;
-    let from = look_from(n, lo, clear);
-    let first = next_window(ts, ps, us, qs, n, m, true, d, from);
-    if total <= first + 2 {
-        return blank_scan();
-    }
-    let g = fractal_in(ts, ps, us, qs, n, m, lo, first);
-    let mut s = opened(g);
-    let k = g.mark;
-    let mut at = next_window(ts, ps, us, qs, n, m, false, k, first + 1);
-    while at + 2 < total {
-        let f = fractal_in(ts, ps, us, qs, n, m, lo, at);
-        s = put(s, f);
-        let j = f.mark;
-        at = next_window(ts, ps, us, qs, n, m, false, j, at + 1);
-    }
-    s
-}
-
-// What check_bi answers where no stroke is made.
-pub fn no_bi() -> FoundBi
-    ensures { result ≡ found_if false blank }
-{
-    let z = no_fx();
-    FoundBi {
-        made: false,
-        start: z,
-        end: z,
-        bars: 0,
-        fractals: 0,
-    }
+    b.high < a.high && a.low < b.low || a.high < b.high && b.low < a.low
 }
 
 // What check_bi makes of a scan.
-pub fn found_bi(s: Scan, minimum: usize) -> FoundBi
-    requires { (s.start.place ≤ s.end.place) × (s.end.place < 4294967296) }
+#[tactic(auto, unfolding(crate::specs::Code::Scan::found_of, crate::specs::Code::Scan::found_by, crate::specs::Code::Scan::found_if, crate::specs::Code::Scan::bars_to))]
+pub fn found_bi(s: Scan, minimum: usize) -> Option<FoundBi>
+    requires { IfSome s.best (EndFits s.start.place) }
     ensures { result ≡ found_of minimum s }
 {
-    let start = s.start;
-    let end = s.end;
-    let first = start.place;
-    let last = end.place;
-    let bars = last + 3 - first;
-    if s.found {
-        if minimum <= bars {
-            if holds(start, end) {
-                return no_bi();
-            }
-            return FoundBi {
-                made: true,
-                start: start,
-                end: end,
-                bars: bars,
-                fractals: s.upto,
-            };
-        }
-        return no_bi();
+    let Best { end, upto } = s.best?;
+    let bars = end.place + 3 - s.start.place;
+    if bars < minimum || holds(s.start, end) {
+        return None;
     }
-    no_bi()
-}
-
-// check_bi of the source, of the view from place lo on. Places are counted from there.
-pub fn check_bi(
-    ts: &[i64],
-    ps: &[[f64; 6]],
-    us: &[i64],
-    qs: &[[f64; 6]],
-    n: usize,
-    m: usize,
-    lo: usize,
-    minimum: usize,
-) -> FoundBi
-    requires { (n ≤ length ts.now) × (n ≤ length ps.now) × (m ≤ length us.now) × (m ≤ length qs.now) × (n + m < 4294967296) × (lo ≤ n + m) }
-    ensures { (result ≡ found_from minimum lo (candles (view n ts.now m us.now) (view n ps.now m qs.now))) × FoundFits result (n + m - lo) }
-{
-    let s = scan_from(ts, ps, us, qs, n, m, lo, 0);
-    found_bi(s, minimum)
+    Some(FoundBi {
+        start: s.start,
+        end,
+        bars,
+        fractals: upto,
+    })
 }

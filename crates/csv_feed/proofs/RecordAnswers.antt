@@ -1,61 +1,63 @@
 -- A record that is read and fed, beside the definitions, and lists of such calls: the proof of `RecordsFeed` of specs/RecordCalls.antt. Assumes nothing.
-use mathlib.Core.Path.{◌≡◌, refl, sym, ap, ◌∙◌, subst}
+use mathlib.Core.Path.{◌≡◌, refl, sym, ap, subst}
 use Prim.Native.Nat.{ℕ, zero, suc}
 use native.Mathlib.Nat.{zero-add}
 use mathlib.Core.Bool.{Bool, true, false}
 use mathlib.Core.List.{List, ◌∷◌}
 use Rattle.bars.specs.declared.Bar.{Bar}
-use Rattle.csv_text.specs.declared.Import.{Import}
-use Rattle.csv_text.specs.declared.Import.TheVariants.{Read, Refused}
+use Rattle.csv_text.specs.Records.{Import, Read, Refused}
 use Rattle.machine.specs.Feed.{Events}
 use Rattle.machine.specs.FeedQuestions.{or_else}
 use Rattle.strokes.specs.declared.Stand.{Stand}
 use Rattle.strokes.specs.Lent.{Stores}
 use Rattle.question4.specs.Question4.{question4}
-use Rattle.feed.specs.declared.feed.Czsc.{Czsc}
-use Rattle.feed.specs.declared.feed.Updated.{Updated}
+use Rattle.std.specs.Prelude.{Ok, Err}
+use Rattle.bars.specs.declared.refusals.Question.{Question}
+use Rattle.bars.specs.declared.refusals.Question.TheVariants.{Sound}
+use Rattle.bars.specs.Refusals.{number}
+use Rattle.feed.specs.declared.events.Events as E
+use Rattle.feed.specs.Answers.{FeedAnswers}
+use Rattle.feed.proofs.FeedLaws.{numbered}
 use Rattle.feed.specs.PortCalls as P
 use Rattle.feed.specs.PortCalls.{FeedIs, PortCalls, added}
-use Rattle.csv_feed.specs.declared.UpdatedRecord.{UpdatedRecord}
+use Rattle.csv_feed.specs.RecordAnswered.{RecordAnswers}
 use Rattle.csv_feed.specs.RecordCalls as R
 use Rattle.csv_feed.specs.RecordCalls.{bytes_if, NotFed, RecordFed, RecordCalls, bars_read, RecordsFeed}
 
 -- ---- one call
-
-pub bytes_yes : (failed n : ℕ) → failed ≡ 0 → n ≡ bytes_if failed n
-unfolding bytes_if
-bytes_yes failed n e = ap (λ (k : ℕ). bytes_if k n) (sym e)
 
 pub bytes_no : (failed n : ℕ) → (failed ≡ 0 → ⊥) → 0 ≡ bytes_if failed n
 unfolding bytes_if
 bytes_no zero n z = absurd (z refl)
 bytes_no (suc k) n z = refl
 
-pub four-first : (q : Bool) (k : ℕ) → q ≡ false → 4 ≡ or_else q 4 k
+four-first : (q : Bool) (k : ℕ) → q ≡ false → 4 ≡ or_else q 4 k
 unfolding or_else
 four-first q k e = ap (λ (b : Bool). or_else b 4 k) (sym e)
 
-pub then_number : (q : Bool) (k : ℕ) → q ≡ true → k ≡ or_else q 4 k
+then_number : (q : Bool) (k : ℕ) → q ≡ true → k ≡ or_else q 4 k
 unfolding or_else
 then_number q k e = ap (λ (b : Bool). or_else b 4 k) (sym e)
 
--- as the code answers it: the answer r to what i is read of the text
-module _ (s : Stand) (m m' : Stores) (i j : Import) (r : UpdatedRecord) (e : j ≡ i) where
-  pub record-fed : (u : Updated) (b : Bar) (n : ℕ) → j ≡ Read b n
-      → FeedIs s m b u.failed u.made u.broken u.shed u.czsc.stand m'
-      → r ≡ record { czsc = u.czsc; failed = u.failed; made = u.made; broken = u.broken; shed = u.shed; length = bytes_if u.failed n }
-      → RecordFed s m i r.failed r.made r.broken r.shed r.length r.czsc.stand m'
-  record-fed u b n q f a =
-      subst (λ (x : Import). RecordFed s m x r.failed r.made r.broken r.shed r.length r.czsc.stand m') (sym q ∙ e)
-      (subst (λ (x : UpdatedRecord). RecordFed s m (Read b n) x.failed x.made x.broken x.shed x.length x.czsc.stand m') (sym a) (f, refl))
+-- as the code answers it: what i is read of the text
+module _ (s : Stand) (m : Stores) (i : Import) where
+  module _ (s' : Stand) (m' : Stores) (b : Bar) (n : ℕ) (e : Read b n ≡ i) where
+    pub record-fed : (x : E.Events) → FeedAnswers s m b (Ok x) s' m' → RecordAnswers s m i (Ok (record { events = x; length = n })) s' m'
+    unfolding bytes_if
+    record-fed x f = subst (λ (z : Import). RecordAnswers s m z (Ok (record { events = x; length = n })) s' m') e (f, refl)
 
-  pub record-refused : (c : Czsc) (k failed : ℕ) → j ≡ Refused k → c.stand ≡ s → m' ≡ m → failed ≡ or_else (question4 s m) 4 k
-      → r ≡ record { czsc = c; failed = failed; made = 0; broken = 0; shed = 0; length = 0 }
-      → RecordFed s m i r.failed r.made r.broken r.shed r.length r.czsc.stand m'
-  record-refused c k failed q h w f a =
-      subst (λ (x : Import). RecordFed s m x r.failed r.made r.broken r.shed r.length r.czsc.stand m') (sym q ∙ e)
-      (subst (λ (x : UpdatedRecord). NotFed s m k x.failed x.made x.broken x.shed x.length x.czsc.stand m') (sym a)
-      (record { failed-is = f; stand-stays = h; stores_stay = w; none_made = refl; none-broken = refl; none-shed = refl; no_bytes = refl }))
+    pub feed-refused : (q p : Question) → p ≡ q → FeedAnswers s m b (Err q) s' m' → RecordAnswers s m i (Err p) s' m'
+    feed-refused q p h f =
+        subst (λ (y : Question). RecordAnswers s m i (Err y) s' m') (sym h) (subst (λ (z : Import). RecordAnswers s m z (Err q) s' m') e (f, bytes_no (number q) n (numbered q)))
+
+  not_fed : (k failed : ℕ) → failed ≡ or_else (question4 s m) 4 k → NotFed s m k failed 0 0 0 0 s m
+  not_fed k failed e = record { failed-is = e; stand-stays = refl; stores_stay = refl; none_made = refl; none-broken = refl; none-shed = refl; no_bytes = refl }
+
+  pub record-refused : (q : Question) → Refused (number q) ≡ i → question4 s m ≡ true → RecordAnswers s m i (Err q) s m
+  record-refused q e h = subst (λ (z : Import). RecordAnswers s m z (Err q) s m) e (not_fed (number q) (number q) (then_number (question4 s m) (number q) h))
+
+  pub not-sound : (q : Question) → Refused (number q) ≡ i → question4 s m ≡ false → RecordAnswers s m i (Err Sound) s m
+  not-sound q e h = subst (λ (z : Import). RecordAnswers s m z (Err Sound) s m) e (not_fed (number q) 4 (four-first (question4 s m) (number q) h))
 
 -- ---- a list of calls
 

@@ -1,1 +1,2 @@
 pub mod RecordCalls
+pub mod RecordAnswered

@@ -1,8 +1,7 @@
 -- Feeding what is read of a text, of document 02's request four: questions 4, 18, 19, then 5 to 12; and a list of such calls. Definitions only.
 use Rattle.std.specs.Prelude.{ℕ, zero, suc, ◌≡◌, List, [], ◌∷◌}
 use Rattle.bars.specs.declared.Bar.{Bar}
-use Rattle.csv_text.specs.declared.Import.{Import}
-use Rattle.csv_text.specs.declared.Import.TheVariants.{Read, Refused}
+use Rattle.csv_text.specs.Records.{Import, Read, Refused}
 use Rattle.machine.specs.Feed.{Events}
 use Rattle.machine.specs.FeedQuestions.{or_else}
 use Rattle.machine.specs.Calls.{none_yet}

@@ -1,6 +1,6 @@
 -- Questions 18 and 19 and the bar of a text, by what the code keeps of its record. Assumes nothing.
 use mathlib.Core.Path.{◌≡◌, refl, sym, ap, ◌∙◌, subst}
-use Prim.Native.Nat.{ℕ, ◌≤◌, ◌<◌}
+use Prim.Native.Nat.{ℕ, zero, suc, ◌≤◌, ◌<◌}
 use native.Mathlib.Nat.{min-eq_left, le_of_lt}
 use mathlib.Core.Bool.{Bool, true, false, cond}
 use mathlib.Core.List.{List, [], ◌∷◌, ◌++◌}
@@ -12,15 +12,16 @@ use Rattle.arith.proofs.Tests.{and_true, holds, yes}
 use Rattle.bars.specs.declared.Bar.{Bar}
 use Rattle.bars.specs.Lists.{every}
 use Rattle.bars.specs.Questions.{first_failed}
-use Rattle.csv_text.specs.declared.Import.{Import}
-use Rattle.csv_text.specs.declared.Import.TheVariants.{Read, Refused}
+use lib.IntN.{pos}
+use Rattle.std.specs.Prelude.{None, Some}
+use Rattle.bars.specs.declared.refusals.Question.{Question}
+use Rattle.bars.specs.Refusals.{number}
+use Rattle.bars.proofs.Asked.{above}
 use Rattle.csv_text.specs.declared.records.Fields.{Fields}
-use Rattle.csv_text.specs.declared.records.FieldsAt.{FieldsAt}
-use Rattle.csv_text.specs.declared.records.FieldsAt.TheVariants as A
 use Rattle.csv_text.specs.Written.{Field, Record, Digits, IsNumber, IsRecord, fields_of, text_of}
 use Rattle.csv_text.specs.Reading.{record_at}
 use Rattle.csv_text.specs.Values.{digits_of, whole_number, few_digits, question19, value_of, seconds_of, bar_of, nearest_of}
-use Rattle.csv_text.specs.Records.{question18, answered, asked19, read_text, unless_failed, asked5to8, read_record}
+use Rattle.csv_text.specs.Records.{Read, Refused, question18, answered, asked19, read_text, unless_failed, asked5to8, read_record}
 use Rattle.csv_text.specs.Code.Numerals.{numeral_of}
 use Rattle.csv_text.specs.Code.Fields.{numerals_of, ReadsRecord, is_few, few_digits_in, Fits, FieldsFit, bar_in}
 use Rattle.csv_text.proofs.BothWays.{reads-back}
@@ -100,7 +101,7 @@ value-kept : (f : Field) → is_few (numeral_of f.number) ≡ true → nearest_o
 unfolding value_of
 value-kept f few = ap (λ (n : ℕ). nearest_of f.number.minus n (length f.number.places)) (field_kept f few)
 
-bar-kept : (place : ℕ) (r : Record) → few_digits_in (numerals_of r) ≡ true → bar_in place (numerals_of r) ≡ bar_of place r
+bar-kept : (place : ℕ) (r : Record) → few_digits_in (numerals_of r) ≡ true → bar_in (pos place) (numerals_of r) ≡ bar_of place r
 unfolding bar_in bar_of numerals_of numeral_of seconds_of
 bar-kept place r e =
     let few = all-few (numerals_of r) e in
@@ -133,23 +134,23 @@ fits_all_lem r h e =
 -- ---- the text
 
 -- the code has the fields f of the record at the text's beginning, which is n bytes long
-pub record IsRecordAt (t : List ℕ) (f : Fields) (n : ℕ) : Type 0 where
-  pub written : Record
-  pub is : record_at t ≡ some written
-  pub fields : f ≡ numerals_of written
-  pub bytes : n ≡ length (text_of written)
+record IsRecordAt (t : List ℕ) (f : Fields) (n : ℕ) : Type 0 where
+  written : Record
+  is : record_at t ≡ some written
+  fields : f ≡ numerals_of written
+  bytes : n ≡ length (text_of written)
 
-pub record-at : (t : List ℕ) (a : FieldsAt) (f : Fields) (n : ℕ) → ReadsRecord (record_at t) a → a ≡ A.Are f n → IsRecordAt t f n
-record-at t a f n h q = go (record_at t) refl (subst (λ (z : FieldsAt). ReadsRecord (record_at t) z) q h)
+record-at : (t : List ℕ) (f : Fields) (n : ℕ) → ReadsRecord (record_at t) (Some (f, n)) → IsRecordAt t f n
+record-at t f n h = go (record_at t) refl h
   where
-    go : (o : Option Record) → record_at t ≡ o → ReadsRecord o (A.Are f n) → IsRecordAt t f n
+    go : (o : Option Record) → record_at t ≡ o → ReadsRecord o (Some (f, n)) → IsRecordAt t f n
     go none p h = absurd h
     go (some r) p h = record { written = r; is = p; fields = h.0; bytes = h.1 }
 
-no_record : (t : List ℕ) (a : FieldsAt) → ReadsRecord (record_at t) a → a ≡ A.Bad → record_at t ≡ none
-no_record t a h q = go (record_at t) (subst (λ (z : FieldsAt). ReadsRecord (record_at t) z) q h)
+no_record : (t : List ℕ) → ReadsRecord (record_at t) None → record_at t ≡ none
+no_record t h = go (record_at t) h
   where
-    go : (o : Option Record) → ReadsRecord o A.Bad → o ≡ none
+    go : (o : Option Record) → ReadsRecord o None → o ≡ none
     go none h = refl
     go (some r) h = absurd h
 
@@ -162,11 +163,14 @@ module _ (place : ℕ) (t : List ℕ) (near : place ≤ 2147483647) where
   unfolding read_text question18
   asked = ap (asked19 place) (ap (λ (b : Bool). cond b (record_at t) none) (le-leb place 2147483647 near))
 
-  pub text_18 : (a : FieldsAt) → ReadsRecord (record_at t) a → a ≡ A.Bad → Refused 18 ≡ read_text place t
+  pub text_18 : ReadsRecord (record_at t) None → Refused 18 ≡ read_text place t
   unfolding asked19
-  text_18 a h q = sym (asked ∙ ap (asked19 place) (no_record t a h q))
+  text_18 h = sym (asked ∙ ap (asked19 place) (no_record t h))
 
-  module _ (f : Fields) (n : ℕ) (w : IsRecordAt t f n) where
+  module _ (f : Fields) (n : ℕ) (h : ReadsRecord (record_at t) (Some (f, n))) where
+    w : IsRecordAt t f n
+    w = record-at t f n h
+
     is-record : IsRecord w.written
     is-record = (reads-back.only t w.written w.is).0
 
@@ -182,18 +186,27 @@ module _ (place : ℕ) (t : List ℕ) (near : place ≤ 2147483647) where
     pub text_fits : few_digits_in f ≡ true → FieldsFit f
     text_fits e = subst FieldsFit (sym w.fields) (fits_all_lem w.written is-record (sym (ap few_digits_in w.fields) ∙ e))
 
-    pub text_read : (b : Bar) → few_digits_in f ≡ true → b ≡ bar_in place f → Read b n ≡ read_text place t
+    pub text_read : (b : Bar) → few_digits_in f ≡ true → b ≡ bar_in (pos place) f → Read b n ≡ read_text place t
     unfolding answered
     text_read b e q =
-        ap (λ (z : Bar). Read z n) (q ∙ ap (bar_in place) w.fields ∙ bar-kept place w.written (sym (ap few_digits_in w.fields) ∙ e))
+        ap (λ (z : Bar). Read z n) (q ∙ ap (bar_in (pos place)) w.fields ∙ bar-kept place w.written (sym (ap few_digits_in w.fields) ∙ e))
         ∙ ap (Read (bar_of place w.written)) w.bytes ∙ by_19 true e
 
 -- ---- then 5 to 8
 
-pub record-asked : (place : ℕ) (t : List ℕ) (i r : Import) (b : Bar) (n : ℕ) → i ≡ read_text place t → i ≡ Read b n → r ≡ unless_failed (first_failed none b) b n → r ≡ read_record place t
+pub record-refused : (place : ℕ) (t : List ℕ) (k : ℕ) → Refused k ≡ read_text place t → Refused k ≡ read_record place t
 unfolding read_record asked5to8
-record-asked place t i r b n e q u = u ∙ ap asked5to8 (sym q ∙ e)
+record-refused place t k e = ap asked5to8 e
 
-pub record-refused : (place : ℕ) (t : List ℕ) (i : Import) (k : ℕ) → i ≡ read_text place t → i ≡ Refused k → Refused k ≡ read_record place t
-unfolding read_record asked5to8
-record-refused place t i k e q = ap asked5to8 (sym q ∙ e)
+module _ (place : ℕ) (t : List ℕ) (b : Bar) (n : ℕ) (e : Read b n ≡ read_text place t) where
+  pub record-asked : 0 ≡ first_failed none b → Read b n ≡ read_record place t
+  unfolding read_record asked5to8 unless_failed
+  record-asked h = ap (λ (k : ℕ). unless_failed k b n) h ∙ ap asked5to8 e
+
+  pub record-failed : (q : Question) → number q ≡ first_failed none b → Refused (number q) ≡ read_record place t
+  unfolding read_record asked5to8 unless_failed
+  record-failed q h = some_number (number q) (above q) ∙ ap (λ (k : ℕ). unless_failed k b n) h ∙ ap asked5to8 e
+    where
+      some_number : (k : ℕ) → (k ≡ 0 → ⊥) → Refused k ≡ unless_failed k b n
+      some_number zero z = absurd (z refl)
+      some_number (suc k) z = refl

@@ -5,9 +5,8 @@ use Prim.Native.String as S
 use Prim.Native.String.{String}
 use Rattle.std.specs.Float.{fin, binary64}
 use Rattle.std.specs.Float.Ieee.{round, add}
-use Rattle.csv_text.specs.declared.Import.TheVariants.{Read, Refused}
 use Rattle.csv_text.specs.Values.{significant, nearest_of}
-use Rattle.csv_text.specs.Records.{read_record}
+use Rattle.csv_text.specs.Records.{Read, Refused, read_record}
 
 -- a text in ASCII as bytes; CR and LF
 abbrev bytes : String → List ℕ

@@ -1,13 +1,23 @@
 -- What the calls answer of a text and the place of its first record: questions 18 and 19 of document 02's request four, then 5 to 8. Definitions only.
-use Rattle.std.specs.Prelude.{ℕ, zero, suc, Bool, true, false, cond, List, length, leb}
+use Rattle.std.specs.Prelude.{ℕ, zero, suc, Bool, true, false, cond, List, length, leb, Result, Ok, Err}
 use Rattle.std.proofs.Math.Option.{Option, none, some}
 use Rattle.bars.specs.declared.Bar.{Bar}
 use Rattle.bars.specs.Questions.{first_failed}
-use Rattle.csv_text.specs.declared.Import.{Import}
-use Rattle.csv_text.specs.declared.Import.TheVariants.{Read, Refused}
+use Rattle.bars.specs.declared.refusals.Question.{Question}
+use Rattle.bars.specs.Refusals.{number}
 use Rattle.csv_text.specs.Written.{Record, text_of}
 use Rattle.csv_text.specs.Reading.{record_at}
 use Rattle.csv_text.specs.Values.{question19, bar_of}
+
+-- a bar and the record's length in bytes, or the number of the first question that was answered "no"
+pub data Import : Type 0 where
+  Read : Bar → ℕ → Import
+  Refused : ℕ → Import
+
+-- as the code answers
+abbrev pub import_of : Result (Bar × ℕ) Question → Import
+import_of (Ok r) = Read r.0 r.1
+import_of (Err q) = Refused (number q)
 
 -- Question 18: does the text begin with a record, and is its place at most 2^31 - 1?
 unfoldable pub question18 : ℕ → List ℕ → Option Record

@@ -1,8 +1,8 @@
-// Numbers as they are written, read from a place of the text on, each byte once.
-ghost use Rattle.std.specs.Prelude.{◌≡◌, ◌+◌, ◌≤◌, ◌<◌, length, drop, T};
-ghost use Rattle.csv_text.specs.Written.{Number, Field, is_digit};
-ghost use Rattle.csv_text.specs.Reading.{begins, digits_at, behind_digits, whole_read, number_at, field_at, next_at, time_at};
-ghost use Rattle.csv_text.specs.Code.Numerals.{with_digit, Reads, DigitsRead, PointRead};
+// Numbers as they are written, at the beginning of a text. What is read comes with the text behind it.
+ghost use Rattle.std.specs.Prelude.{◌≡◌, true, false, MatchOption};
+ghost use Rattle.csv_text.specs.Written.{Number, Field};
+ghost use Rattle.csv_text.specs.Reading.{begins, behind, digits_at, behind_digits, point_read, whole_read, number_at, field_at, next_at, time_at};
+ghost use Rattle.csv_text.specs.Code.Numerals.{with_digit, Reads, PointRead};
 
 // A number: whether it has a minus, its digits as a whole number, and how many of them stand behind the point. The whole number
 // stops at 10^15, which has a digit too many.
@@ -13,161 +13,103 @@ pub struct Numeral {
     pub places: usize,
 }
 
-// A numeral and the place behind it.
-#[derive(Clone, Copy)]
-pub enum NumeralAt {
-    Is(Numeral, usize),
-    Bad,
-}
-
-// Digits as a whole number, and the place behind them.
-#[derive(Clone, Copy)]
-struct Digits {
-    value: u64,
-    end: usize,
-}
-
-// Whether the byte at this place is b.
-pub fn begins(text: &[u8], at: usize, b: u8) -> bool
-    ensures { result ≡ begins b (drop at text.now) }
+// The text behind its first byte, where that is b.
+pub fn behind(text: &[u8], b: u8) -> Option<&[u8]>
+    ensures { MatchOption result (begins b text.now ≡ false) (λ rest. (begins b text.now ≡ true) × (rest.now ≡ behind text.now)) }
 {
-    if at < text.len() {
-        return text[at] == b;
-    }
-    false
+    text.strip_prefix(&[b])
 }
 
-fn is_digit(b: u8) -> bool
-    ensures { result ≡ is_digit b }
-{
-    if 48 <= b {
-        return b <= 57;
-    }
-    false
-}
-
+// A digit more behind those that make n.
 fn with_digit(n: u64, b: u8) -> u64
-    requires { (n ≤ 1000000000000000) × T (is_digit b) }
-    ensures { (result ≡ with_digit n b) × (result ≤ 1000000000000000) }
+    ensures { result ≡ with_digit n b }
 {
-    let m = n * 10 + (b - 48) as u64;
-    if m < 1000000000000000 {
-        return m;
-    }
-    1000000000000000
+    n.saturating_mul(10)
+        .saturating_add(u64::from(b.saturating_sub(b'0')))
+        .min(1000000000000000)
 }
 
-// The digits from this place on, behind those that make n.
-fn digits_from(text: &[u8], from: usize, n: u64) -> Digits
-    requires { (n ≤ 1000000000000000) × (from ≤ length text.now) }
-    ensures { DigitsRead text.now from n result.value result.end }
+// The digits at the text's beginning, and the text behind them.
+fn split_digits(text: &[u8]) -> (&[u8], &[u8])
+    ensures { (result.0.now ≡ digits_at text.now) × (result.1.now ≡ behind_digits text.now) }
 {
-    let mut value = n;
-    let mut end = from;
-    while end < text.len() {
-        let b = text[end];
-        if !is_digit(b) {
-            return Digits { value, end };
-        }
-        value = with_digit(value, b);
-        end += 1;
-    }
-    Digits { value, end }
+    let n = text
+        .iter()
+        .position(|b| !b.is_ascii_digit())
+        .unwrap_or(text.len());
+    text.split_at(n)
 }
 
-// The number whose digits before the point make n and end at this place.
-fn number_behind(text: &[u8], minus: bool, n: u64, at: usize) -> NumeralAt
-    requires { (n ≤ 1000000000000000) × (at ≤ length text.now) }
-    ensures { PointRead text.now minus n at result }
+// The number whose digits before the point make n, and end where the text begins.
+fn number_behind(text: &[u8], minus: bool, n: u64) -> Option<(Numeral, &[u8])>
+    ensures { PointRead text.now minus n result }
 {
-    if !begins(text, at, b'.') {
+    let Some(text) = behind(text, b'.') else {
         let whole = Numeral {
             minus,
             digits: n,
             places: 0,
         };
-        return NumeralAt::Is(whole, at);
+        return Some((whole, text));
+    };
+    let (digits, rest) = split_digits(text);
+    let places = digits.len();
+    if places == 0 || 22 < places {
+        return None;
     }
-    let from = at + 1;
-    let d = digits_from(text, from, n);
-    let end = d.end;
-    let places = end - from;
-    if places == 0 {
-        return NumeralAt::Bad;
-    }
-    if 22 < places {
-        return NumeralAt::Bad;
-    }
-    let digits = d.value;
+    let digits = digits.iter().fold(n, |n, b| with_digit(n, *b));
     let number = Numeral {
         minus,
         digits,
         places,
     };
-    NumeralAt::Is(number, end)
+    Some((number, rest))
 }
 
-// The number whose digits begin at this place.
-fn number_of(text: &[u8], minus: bool, from: usize) -> NumeralAt
-    requires { from ≤ length text.now }
-    ensures { Reads (λ (n : Number). n) text.now (whole_read minus (digits_at (drop from text.now)) (behind_digits (drop from text.now))) result }
+// The number whose digits begin the text.
+fn number_of(text: &[u8], minus: bool) -> Option<(Numeral, &[u8])>
+    ensures { Reads (λ (n : Number). n) (whole_read minus (digits_at text.now) (behind_digits text.now)) result }
 {
-    let d = digits_from(text, from, 0);
-    let end = d.end;
-    if end == from {
-        return NumeralAt::Bad;
+    let (digits, rest) = split_digits(text);
+    if digits.is_empty() {
+        return None;
     }
-    let n = d.value;
-    number_behind(text, minus, n, end)
+    let n = digits.iter().fold(0, |n, b| with_digit(n, *b));
+    number_behind(rest, minus, n)
 }
 
-fn number_at(text: &[u8], at: usize) -> NumeralAt
-    requires { at ≤ length text.now }
-    ensures { Reads (λ (n : Number). n) text.now (number_at (drop at text.now)) result }
+fn number_at(text: &[u8]) -> Option<(Numeral, &[u8])>
+    ensures { Reads (λ (n : Number). n) (number_at text.now) result }
 {
-    if begins(text, at, b'-') {
-        return number_of(text, true, at + 1);
+    match behind(text, b'-') {
+        Some(rest) => number_of(rest, true),
+        None => number_of(text, false),
     }
-    number_of(text, false, at)
 }
 
 // A number, in quotes or without.
-fn field_at(text: &[u8], at: usize) -> NumeralAt
-    requires { at ≤ length text.now }
-    ensures { Reads (λ (f : Field). f.number) text.now (field_at (drop at text.now)) result }
+fn field_at(text: &[u8]) -> Option<(Numeral, &[u8])>
+    ensures { Reads (λ (f : Field). f.number) (field_at text.now) result }
 {
-    if !begins(text, at, b'"') {
-        return number_at(text, at);
-    }
-    let NumeralAt::Is(n, end) = number_at(text, at + 1) else {
-        return NumeralAt::Bad;
+    let Some(quoted) = behind(text, b'"') else {
+        return number_at(text);
     };
-    if begins(text, end, b'"') {
-        return NumeralAt::Is(n, end + 1);
-    }
-    NumeralAt::Bad
+    let (n, rest) = number_at(quoted)?;
+    let rest = behind(rest, b'"')?;
+    Some((n, rest))
 }
 
 // A field with a comma before it.
-pub fn next_at(text: &[u8], at: usize) -> NumeralAt
-    requires { at ≤ length text.now }
-    ensures { Reads (λ (f : Field). f.number) text.now (next_at (drop at text.now)) result }
+pub fn next_at(text: &[u8]) -> Option<(Numeral, &[u8])>
+    ensures { Reads (λ (f : Field). f.number) (next_at text.now) result }
 {
-    if begins(text, at, b',') {
-        return field_at(text, at + 1);
-    }
-    NumeralAt::Bad
+    field_at(behind(text, b',')?)
 }
 
 // The first field: times are whole seconds, so it has no point.
-pub fn time_at(text: &[u8]) -> NumeralAt
-    ensures { Reads (λ (f : Field). f.number) text.now (time_at text.now) result }
+pub fn time_at(text: &[u8]) -> Option<(Numeral, &[u8])>
+    ensures { Reads (λ (f : Field). f.number) (time_at text.now) result }
 {
-    let NumeralAt::Is(n, end) = field_at(text, 0) else {
-        return NumeralAt::Bad;
-    };
-    if n.places == 0 {
-        return NumeralAt::Is(n, end);
-    }
-    NumeralAt::Bad
+    let (n, rest) = field_at(text)?;
+    if n.places == 0 { Some((n, rest)) } else { None }
 }

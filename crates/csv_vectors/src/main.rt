@@ -11,44 +11,18 @@
 
 mod questions;
 
-use lines::{Buffer, Buffered, Cursor};
-use std::io::Stdout;
+use lines::Unanswered;
 
-fn answered(
-    to: Stdout,
-    out: &mut Buffer,
-    text: &mut [u8],
-    cursor: Cursor,
-    number: u64,
-) -> Buffered {
-    let n = lines::asked(text, cursor);
-    let o = lines::nothing_buffered(to);
-    if n == 0 {
-        return o;
-    }
-    if cursor.long {
-        return lines::put(out, o, b"too long\n");
-    }
-    questions::reply(out, o, &mut text[..n], number)
-}
+// The most bytes of a line that is taken.
+const MOST: usize = 2200000;
 
-// Writes the answer to the line with this number.
-fn answer(to: Stdout, text: &mut [u8], cursor: Cursor, number: u64) {
-    let mut out = lines::large_buffer();
-    let o = answered(to, &mut out, text, cursor, number);
-    lines::flush(&out, o);
-}
-
+// Where the input or the output fails, the answers end there.
 fn main(rt: HostRuntime) {
-    let to = rt.stdout();
-    let mut bytes = lines::large_buffer();
-    let mut text = [0u8; 2200000];
-    let mut cursor = lines::first_line(rt.stdin());
-    // A proved loop has to end, and nothing says that the input does. So it counts the lines, up to a number that no run reaches.
-    let mut number: u64 = 0;
-    while number < u64::MAX && cursor.open {
-        number += 1;
-        cursor = lines::next_line(&mut bytes, &mut text, cursor);
-        answer(to, &mut text, cursor, number);
-    }
+    let alloc = rt.alloc();
+    let _ = lines::answer_lines(
+        &rt,
+        MOST,
+        |out, line| questions::answer(out, alloc, line),
+        Unanswered::say,
+    );
 }

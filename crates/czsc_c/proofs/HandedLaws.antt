@@ -3,14 +3,15 @@ use Prim.Native.Nat.{ℕ, zero, suc, ◌≤◌, ◌<◌}
 use native.Mathlib.Omega.{arith}
 use mathlib.Core.Path.{◌≡◌, refl, ap, sym, ◌∙◌, subst}
 use mathlib.Core.Bool.{Bool, true, false, ◌&&◌, false≢true}
-use mathlib.Core.List.{List}
+use mathlib.Core.List.{List, [], ◌∷◌}
 use lib.Dec.{leb}
-use lib.ListN.{length}
+use lib.ListN.{length, set}
 use borrow.Author.Tests.{le-leb, lt-leb, leb-true}
 use Rattle.bars.specs.declared.Bar.{Bar}
 use Rattle.machine.specs.FeedQuestions.{or_else}
 use Rattle.strokes.specs.declared.Stand.{Stand}
-use Rattle.strokes.specs.Lent.{Stores}
+use Rattle.stores.specs.Stores.{RawStore, MergedStore}
+use Rattle.strokes.specs.Lent.{FractalStore, Stores, stores_of}
 use Rattle.strokes.specs.Packed.{packed, numbers_with, counts_with, rows_there}
 use Rattle.strokes.proofs.PackedRows.{there}
 use Rattle.sound.specs.declared.fresh_stand.FreshAnswer.{FreshAnswer}
@@ -18,38 +19,62 @@ use Rattle.sound.specs.FreshStand.{fresh_of}
 use Rattle.sound.specs.StandSound.{IsSound}
 use Rattle.question4.specs.Question4.{question4}
 use Rattle.question4.proofs.Question4Passed.{is-sound}
-use Rattle.feed.specs.declared.feed.FeedAnswer.{FeedAnswer}
+use Rattle.std.specs.Prelude.{Result, Ok, Err}
+use Rattle.bars.specs.Refusals.{number}
+use Rattle.feed.proofs.FeedLaws.{numbered}
+use Rattle.bars.specs.declared.refusals.Question.{Question}
+use Rattle.feed.specs.declared.events.Events.{Events}
+use Rattle.feed.specs.Answers.{events_of, FeedAnswers}
+use Rattle.batch.specs.BatchCalls.{BatchIs}
 use Rattle.feed.specs.PortCalls.{FeedIs}
 use Rattle.czsc_c.specs.Handed.{stand_handed, fresh_handed_if, fresh_handed, failed_before, HandedOver, FedHanded, UpdateHanded, failed_first_if, failed_first, SumsHanded, BatchHanded}
 
+-- ---- of stores that are lent to be read
+
+module _ {r r' : RawStore} {u u' k k' : MergedStore} {f f' : FractalStore} (hr : r ≡ r') (hu : u ≡ u') (hk : k ≡ k') (hf : f ≡ f') where
+  pub before_seen : (ns cs es : List (List ℕ)) {n : ℕ} → n ≡ failed_before ns cs es (stores_of r u k f) → n ≡ failed_before ns cs es (stores_of r' u' k' f')
+  before_seen ns cs es e = e ∙ (λ i. failed_before ns cs es (stores_of (hr i) (hu i) (hk i) (hf i)))
+
+  pub first_seen : (minimum most power ratio : ℕ) (ns cs ss : List (List ℕ)) {n : ℕ} → n ≡ failed_first (fresh_of minimum most power ratio (stores_of r u k f)) ns cs ss
+      → n ≡ failed_first (fresh_of minimum most power ratio (stores_of r' u' k' f')) ns cs ss
+  first_seen minimum most power ratio ns cs ss e =
+      e ∙ (λ i. failed_first (fresh_of minimum most power ratio (stores_of (hr i) (hu i) (hk i) (hf i))) ns cs ss)
+
 -- ---- a fresh analyzer
 
-module _ (a a₀ : FreshAnswer) (ns cs : List (List ℕ)) (e : a ≡ a₀) where
-  by_refused : (n : ℕ) → a.refused ≡ n → stand_handed n ns cs ≡ fresh_handed_if n (rows_there ns cs) a.stand ns cs → stand_handed n ns cs ≡ fresh_handed a₀ ns cs
+module _ (a : FreshAnswer) (ns cs : List (List ℕ)) where
+  by_refused : (n : ℕ) → n ≡ a.refused → stand_handed n ns cs ≡ fresh_handed_if n (rows_there ns cs) a.stand ns cs → stand_handed n ns cs ≡ fresh_handed a ns cs
   unfolding fresh_handed
-  by_refused n q h = h ∙ (λ i. fresh_handed_if (sym q i) (rows_there ns cs) a.stand ns cs) ∙ ap (λ (x : FreshAnswer). fresh_handed_if x.refused (rows_there ns cs) x.stand ns cs) e
+  by_refused n q h = h ∙ ap (λ (k : ℕ). fresh_handed_if k (rows_there ns cs) a.stand ns cs) q
 
   refused-at : (n : ℕ) → (n ≡ 0 → ⊥) → stand_handed n ns cs ≡ fresh_handed_if n (rows_there ns cs) a.stand ns cs
   unfolding fresh_handed_if
   refused-at zero h = absurd (h refl)
   refused-at (suc n) h = refl
 
-  pub fresh-refused : (a.refused ≡ 0 → ⊥) → stand_handed a.refused ns cs ≡ fresh_handed a₀ ns cs
-  fresh-refused h = by_refused a.refused refl (refused-at a.refused h)
+  pub fresh-refused : (n : ℕ) → n ≡ a.refused → (n ≡ 0 → ⊥) → stand_handed n ns cs ≡ fresh_handed a ns cs
+  fresh-refused n q h = by_refused n q (refused-at n h)
 
-  pub fresh_no_place : a.refused ≡ 0 → rows_there ns cs ≡ false → stand_handed 14 ns cs ≡ fresh_handed a₀ ns cs
+  pub fresh_no_place : 0 ≡ a.refused → rows_there ns cs ≡ false → stand_handed 14 ns cs ≡ fresh_handed a ns cs
   unfolding fresh_handed fresh_handed_if
-  fresh_no_place z t =
-      (λ i. fresh_handed_if (sym z i) (sym t i) a.stand ns cs) ∙ ap (λ (x : FreshAnswer). fresh_handed_if x.refused (rows_there ns cs) x.stand ns cs) e
+  fresh_no_place z t = λ i. fresh_handed_if (z i) (sym t i) a.stand ns cs
 
-  pub fresh_handed_lem : (ns' cs' : List (List ℕ)) → a.refused ≡ 0 → rows_there ns cs ≡ true → ns' ≡ numbers_with a.stand ns → cs' ≡ counts_with a.stand cs
-      → stand_handed 0 ns' cs' ≡ fresh_handed a₀ ns cs
+  pub fresh_handed_lem : (s : Stand) (ns' cs' : List (List ℕ)) → 0 ≡ a.refused → s ≡ a.stand → rows_there ns cs ≡ true → ns' ≡ numbers_with s ns → cs' ≡ counts_with s cs
+      → stand_handed 0 ns' cs' ≡ fresh_handed a ns cs
   unfolding fresh_handed fresh_handed_if
-  fresh_handed_lem ns' cs' z t x y =
-      (λ i. stand_handed 0 (x i) (y i)) ∙ (λ i. fresh_handed_if (sym z i) (sym t i) a.stand ns cs)
-      ∙ ap (λ (x : FreshAnswer). fresh_handed_if x.refused (rows_there ns cs) x.stand ns cs) e
+  fresh_handed_lem s ns' cs' z e t x y =
+      (λ i. stand_handed 0 (x i) (y i)) ∙ (λ i. fresh_handed_if (z i) (sym t i) (e i) ns cs)
 
 -- ---- a feed
+
+module _ (s : Stand) (ns cs es ns' cs' es' : List (List ℕ)) (r : Result Events Question) where
+  pub handed_yes : (e : Events) → r ≡ Ok e → ns' ≡ numbers_with s ns → cs' ≡ counts_with s cs → es' ≡ set es 0 (e.made ∷ e.broken ∷ e.shed ∷ []) → HandedOver s r ns cs es 0 ns' cs' es'
+  handed_yes e q x y z =
+      subst (λ (w : Result Events Question). HandedOver s w ns cs es 0 ns' cs' es') (sym q) (record { number = refl; refused = λ h. absurd (h refl); answered = λ h. (x, y, z) })
+
+pub handed_no : (s : Stand) (ns cs es : List (List ℕ)) (r : Result Events Question) (q : Question) → r ≡ Err q → HandedOver s r ns cs es (number q) ns cs es
+handed_no s ns cs es r q e =
+    subst (λ (w : Result Events Question). HandedOver s w ns cs es (number q) ns cs es) (sym e) (record { number = refl; refused = λ h. (refl, refl, refl); answered = λ z. absurd (numbered q z) })
 
 module _ (ns cs es : List (List ℕ)) (m : Stores) where
   pub no_stand_lem : rows_there ns cs ≡ false → 4 ≡ failed_before ns cs es m
@@ -87,47 +112,47 @@ module _ (ns cs es : List (List ℕ)) (m : Stores) where
   refused-before b f e h = record { before = λ k. (e, refl, refl, refl, refl); fed = λ z. absurd (h (e ∙ z)) }
 
   module _ {b : Bar} {f : ℕ} {ns' cs' es' : List (List ℕ)} {m' : Stores} where
-    pub fed_then : (b₀ : Bar) → b ≡ b₀ → failed_before ns cs es m ≡ 0 → FedHanded ns cs es m b f ns' cs' es' m' → UpdateHanded ns cs es m b₀ f ns' cs' es' m'
-    fed_then b₀ e z h = record { before = λ k. absurd (k z); fed = λ q. subst (λ (x : Bar). FedHanded ns cs es m x f ns' cs' es' m') e h }
+    pub fed_then : failed_before ns cs es m ≡ 0 → FedHanded ns cs es m b f ns' cs' es' m' → UpdateHanded ns cs es m b f ns' cs' es' m'
+    fed_then z h = record { before = λ k. absurd (k z); fed = λ q. h }
 
-    pub fed_handed : (s : Stand) (r : FeedAnswer) → s ≡ packed ns cs → FeedIs s m b r.failed r.made r.broken r.shed r.stand m' → HandedOver r ns cs es f ns' cs' es'
+    pub fed_handed : (s t : Stand) (r : Result Events Question) → s ≡ packed ns cs → FeedAnswers s m b r t m' → HandedOver t r ns cs es f ns' cs' es'
         → FedHanded ns cs es m b f ns' cs' es' m'
-    fed_handed s r e k h =
+    fed_handed s t r e k h =
         let q = h.number in
         record {
-          made = r.made;
-          broken = r.broken;
-          shed = r.shed;
-          stand = r.stand;
-          feed = subst (λ (n : ℕ). FeedIs (packed ns cs) m b n r.made r.broken r.shed r.stand m') (sym q) (subst (λ (z : Stand). FeedIs z m b r.failed r.made r.broken r.shed r.stand m') e k);
+          made = (events_of r).made;
+          broken = (events_of r).broken;
+          shed = (events_of r).shed;
+          stand = t;
+          feed = subst (λ (n : ℕ). FeedIs (packed ns cs) m b n (events_of r).made (events_of r).broken (events_of r).shed t m') (sym q) (subst (λ (z : Stand). FeedAnswers z m b r t m') e k);
           refused = λ x. h.refused (λ z. x (q ∙ z));
           answered = λ z. h.answered (sym q ∙ z);
         }
 
 -- ---- a list of bars
 
-module _ (a a₀ : FreshAnswer) (ns cs ss : List (List ℕ)) (e : a ≡ a₀) where
-  first_by : (n : ℕ) (t : Bool) → a.refused ≡ n → (rows_there ns cs && leb 1 (length ss)) ≡ t → failed_first_if n t ≡ failed_first a₀ ns cs ss
+module _ (a : FreshAnswer) (ns cs ss : List (List ℕ)) where
+  first_by : (n : ℕ) (t : Bool) → n ≡ a.refused → (rows_there ns cs && leb 1 (length ss)) ≡ t → failed_first_if n t ≡ failed_first a ns cs ss
   unfolding failed_first
-  first_by n t q h = (λ i. failed_first_if (sym q i) (sym h i)) ∙ ap (λ (x : FreshAnswer). failed_first_if x.refused (rows_there ns cs && leb 1 (length ss))) e
+  first_by n t q h = λ i. failed_first_if (q i) (sym h i)
 
   number-at : (n : ℕ) (t : Bool) → (n ≡ 0 → ⊥) → n ≡ failed_first_if n t
   unfolding failed_first_if
   number-at zero t h = absurd (h refl)
   number-at (suc n) t h = refl
 
-  pub first-refused : (a.refused ≡ 0 → ⊥) → a.refused ≡ failed_first a₀ ns cs ss
-  first-refused h = let t = rows_there ns cs && leb 1 (length ss) in number-at a.refused t h ∙ first_by a.refused t refl refl
+  pub first-refused : (n : ℕ) → n ≡ a.refused → (n ≡ 0 → ⊥) → n ≡ failed_first a ns cs ss
+  first-refused n q h = let t = rows_there ns cs && leb 1 (length ss) in number-at n t h ∙ first_by n t q refl
 
-  pub first_no-stand : a.refused ≡ 0 → rows_there ns cs ≡ false → 14 ≡ failed_first a₀ ns cs ss
+  pub first_no-stand : 0 ≡ a.refused → rows_there ns cs ≡ false → 14 ≡ failed_first a ns cs ss
   unfolding failed_first_if
   first_no-stand z t = first_by 0 false z (rw t)
 
-  pub first_no-place : a.refused ≡ 0 → rows_there ns cs ≡ true → length ss < 1 → 14 ≡ failed_first a₀ ns cs ss
+  pub first_no-place : 0 ≡ a.refused → rows_there ns cs ≡ true → length ss < 1 → 14 ≡ failed_first a ns cs ss
   unfolding failed_first_if
   first_no-place z t h = first_by 0 false z (rw (t, lt-leb 1 (length ss) h))
 
-  pub first-passed : a.refused ≡ 0 → rows_there ns cs ≡ true → 1 ≤ length ss → 0 ≡ failed_first a₀ ns cs ss
+  pub first-passed : 0 ≡ a.refused → rows_there ns cs ≡ true → 1 ≤ length ss → 0 ≡ failed_first a ns cs ss
   unfolding failed_first_if
   first-passed z t h = first_by 0 true z (rw (t, le-leb 1 (length ss) h))
 
@@ -148,6 +173,16 @@ module _ (minimum most power ratio : ℕ) (ns cs ss : List (List ℕ)) (m : Stor
       let p = and_both (rows_there ns cs) (leb 1 (length ss)) (places_by (fresh_of minimum most power ratio m).refused (rows_there ns cs && leb 1 (length ss)) h) in
       let t = there ns cs p.0 in
       (t.0, t.1, leb-true 1 (length ss) p.1)
+
+  none_by : (n : ℕ) (t : Bool) → failed_first_if n t ≡ 0 → n ≡ 0
+  unfolding failed_first_if
+  none_by zero t h = refl
+  none_by (suc n) t h = let w : ⊥ = omega (arith, h) in absurd w
+
+  -- the batch call then refuses no analyzer
+  pub begins : {bars : List Bar} {q : Question} {m' : Stores} → failed_first (fresh_of minimum most power ratio m) ns cs ss ≡ 0 → BatchIs minimum most power ratio m bars (Err q) m' → ⊥
+  unfolding failed_first
+  begins h k = k.answered (none_by (fresh_of minimum most power ratio m).refused (rows_there ns cs && leb 1 (length ss)) h)
 
   pub refused-first : (bars : List Bar) (f : ℕ) → f ≡ failed_first (fresh_of minimum most power ratio m) ns cs ss → (f ≡ 0 → ⊥)
       → BatchHanded minimum most power ratio ns cs ss m bars f ns cs ss m

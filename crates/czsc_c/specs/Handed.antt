@@ -1,8 +1,10 @@
 -- What the calls under C names hand over. Between two calls a stand lies packed in the first row of `numbers` and the first two of `counts` (strokes, Packed); what a feed made, broke and
 -- shed goes to the first row of `events`, and the sums of a list of bars, with the number of bars accepted, to the first row of `sums`. All other rows stay. A fresh
 -- analyzer and a feed that are refused write nothing, nor does a list of bars that fails questions 1, 2, 17, 3 or 14. Definitions only.
-use Rattle.std.specs.Prelude.{ℕ, zero, suc, ◌≡◌, Bool, true, false, ◌&&◌, List, [], ◌∷◌, leb, length, set, ℤ, Float}
+use Rattle.std.specs.Prelude.{ℕ, zero, suc, ◌≡◌, Bool, true, false, ◌&&◌, List, [], ◌∷◌, leb, length, set, ℤ, Float, Result, Ok}
 use Rattle.bars.specs.declared.Bar.{Bar}
+use Rattle.bars.specs.declared.refusals.Question.{Question}
+use Rattle.bars.specs.Refusals.{asked}
 use Rattle.machine.specs.FeedQuestions.{or_else}
 use Rattle.strokes.specs.declared.Stand.{Stand}
 use Rattle.strokes.specs.Lent.{Stores}
@@ -10,10 +12,11 @@ use Rattle.strokes.specs.Packed.{packed, numbers_with, counts_with, rows_there}
 use Rattle.sound.specs.declared.fresh_stand.FreshAnswer.{FreshAnswer}
 use Rattle.sound.specs.FreshStand.{fresh_of}
 use Rattle.question4.specs.Question4.{question4}
-use Rattle.feed.specs.declared.feed.FeedAnswer.{FeedAnswer}
+use Rattle.feed.specs.declared.events.Events.{Events}
+use Rattle.feed.specs.Answers.{events_of}
 use Rattle.feed.specs.PortCalls.{FeedIs}
 use Rattle.batch.specs.declared.batch.BatchAnswer.{BatchAnswer}
-use Rattle.batch.specs.BatchCalls.{BatchIs}
+use Rattle.batch.specs.BatchCalls.{failed_of, BatchIs}
 
 abbrev pub bar_with : ℤ → ℤ → Float → Float → Float → Float → Float → Float → Bar
 bar_with t i o c h l v a = record { time = t; id = i; «open» = o; close = c; high = h; low = l; vol = v; amount = a }
@@ -45,11 +48,11 @@ unfoldable pub failed_before : List (List ℕ) → List (List ℕ) → List (Lis
 unfolding or_else rows_there question4 packed
 failed_before ns cs es m = or_else (rows_there ns cs) 4 (or_else (question4 (packed ns cs) m) 4 (or_else (leb 1 (length es)) 14 0))
 
--- the answer r of a feed, whose number is f, is handed over: a refusal leaves the rows as they were
-pub record HandedOver (r : FeedAnswer) (ns cs es : List (List ℕ)) (f : ℕ) (ns' cs' es' : List (List ℕ)) : Type 0 where
-  pub number : f ≡ r.failed
-  pub refused : (r.failed ≡ 0 → ⊥) → (ns' ≡ ns) × (cs' ≡ cs) × (es' ≡ es)
-  pub answered : r.failed ≡ 0 → (ns' ≡ numbers_with r.stand ns) × (cs' ≡ counts_with r.stand cs) × (es' ≡ set es 0 (r.made ∷ r.broken ∷ r.shed ∷ []))
+-- the answer r of a feed, whose number is f, and the stand s after it are handed over: a refusal leaves the rows as they were
+pub record HandedOver (s : Stand) (r : Result Events Question) (ns cs es : List (List ℕ)) (f : ℕ) (ns' cs' es' : List (List ℕ)) : Type 0 where
+  pub number : f ≡ asked r
+  pub refused : (asked r ≡ 0 → ⊥) → (ns' ≡ ns) × (cs' ≡ cs) × (es' ≡ es)
+  pub answered : asked r ≡ 0 → (ns' ≡ numbers_with s ns) × (cs' ≡ counts_with s cs) × (es' ≡ set es 0 ((events_of r).made ∷ (events_of r).broken ∷ (events_of r).shed ∷ []))
 
 -- the feed of the bar b to the packed stand answers f: a refusal leaves the rows, and an answer hands over the stand and what was made, broken and shed
 pub record FedHanded (ns cs es : List (List ℕ)) (m : Stores) (b : Bar) (f : ℕ) (ns' cs' es' : List (List ℕ)) (m' : Stores) : Type 0 where
@@ -79,11 +82,11 @@ failed_first a ns cs ss = failed_first_if a.refused (rows_there ns cs && leb 1 (
 -- the answer r of the batch call, whose number is f, is handed over
 pub record SumsHanded (minimum most power ratio : ℕ) (ns cs ss : List (List ℕ)) (m : Stores) (bars : List Bar) (f : ℕ) (ns' cs' ss' : List (List ℕ)) (m' : Stores) : Type 0 where
   pub answer : BatchAnswer
-  pub batch : BatchIs minimum most power ratio m bars answer m'
-  pub number : f ≡ answer.failed
+  pub batch : BatchIs minimum most power ratio m bars (Ok answer) m'
+  pub number : f ≡ failed_of answer
   pub numbers : ns' ≡ numbers_with answer.stand ns
   pub counts : cs' ≡ counts_with answer.stand cs
-  pub sums : ss' ≡ set ss 0 (answer.made ∷ answer.broken ∷ answer.shed ∷ answer.fed ∷ [])
+  pub sums : ss' ≡ set ss 0 (answer.events.made ∷ answer.events.broken ∷ answer.events.shed ∷ answer.fed ∷ [])
 
 pub record BatchHanded (minimum most power ratio : ℕ) (ns cs ss : List (List ℕ)) (m : Stores) (bars : List Bar) (f : ℕ) (ns' cs' ss' : List (List ℕ)) (m' : Stores) : Type 0 where
   pub before : (failed_first (fresh_of minimum most power ratio m) ns cs ss ≡ 0 → ⊥)

@@ -4,18 +4,18 @@ use mathlib.Core.Bool.{Bool, true, false, ◌&&◌}
 use mathlib.Core.Path.{◌≡◌, refl, ap, sym, subst, ◌∙◌}
 use native.Mathlib.Omega.{arith}
 use Rattle.bars.specs.declared.Bar.{Bar}
+use Rattle.bars.specs.declared.refusals.Question.{Question}
+use Rattle.bars.specs.declared.refusals.Question.TheVariants.{MinimumLength, MostStrokes, Rooms, Sound, Time, Prices, Volumes, LowAtMostHigh, NotEarlier, RawRoom, UnfinishedRoom, StrokeRoom, Exists, OutputRoom, Summary, Places, Record, Digits}
+use Rattle.bars.specs.Refusals.{number}
 use Rattle.machine.specs.FeedQuestions.{or_else, failed_after4}
 use Rattle.strokes.specs.declared.Stand.{Stand}
 use Rattle.strokes.specs.StateRead.{settings_of, state_of, sized}
-use Rattle.strokes.specs.Lent.{Stores}
+use Rattle.stores.specs.Stores.{RawStore, MergedStore}
+use Rattle.strokes.specs.Lent.{FractalStore, Stores, stores_of}
 use Rattle.machine.specs.Soundness.{sound}
 use Rattle.sound.specs.StandSound.{IsSound, stores_sound}
 use Rattle.question4.specs.Question4.{question4}
-use Rattle.feed.specs.PortCalls.{failed_by, FeedIs, call, none}
-use Rattle.feed.specs.declared.feed.FeedAnswer.{FeedAnswer}
-use Rattle.feed.specs.declared.feed.Updated.{Updated}
-use Rattle.writing.proofs.SameLengths.{SameLengths}
-use Rattle.feed.proofs.PortStays.{calls_lengths}
+use Rattle.feed.specs.PortCalls.{failed_by, FeedIs}
 use Rattle.asking.specs.declared.questions.Asked.{Asked}
 use Rattle.asking.specs.Code.Asked.{AskedOf}
 use Rattle.writing.specs.declared.Wrote.{Wrote}
@@ -65,16 +65,6 @@ module _ (s : Stand) (m : Stores) (b : Bar) where
         accepted = λ z. (k.state, k.events, k.settings, k.sizes);
       }
 
-  -- as the code answers it
-  pub feed_no : (n : ℕ) (r : FeedAnswer) → r ≡ record { stand = s; failed = n; made = 0; broken = 0; shed = 0 } → IsSound s m
-      → n ≡ failed_after4 (settings_of s) (state_of s m) b → (n ≡ 0 → ⊥) → FeedIs s m b r.failed r.made r.broken r.shed r.stand m
-  feed_no n r e h q k =
-      subst (λ (x : FeedAnswer). FeedIs s m b x.failed x.made x.broken x.shed x.stand m) (sym e) (feed-refused n h q k)
-
-  pub feed_4 : (r : FeedAnswer) → r ≡ record { stand = s; failed = 4; made = 0; broken = 0; shed = 0 } → question4 s m ≡ false
-      → FeedIs s m b r.failed r.made r.broken r.shed r.stand m
-  feed_4 r e q = subst (λ (x : FeedAnswer). FeedIs s m b x.failed x.made x.broken x.shed x.stand m) (sym e) (feed_unsound q)
-
   -- what the writing asks
   pub can_write : (a : Asked) → IsSound s m → AskedOf (settings_of s) (state_of s m) b a → a.failed ≡ 0 → CanWrite s m b a.later a.plan
   can_write a h e z = record { sound = h; passes = sym e.failed ∙ z; later-is = e.later z; plan-is = e.plan z }
@@ -83,12 +73,35 @@ module _ (s : Stand) (m : Stores) (b : Bar) where
       → FeedIs s m b 0 w.made w.broken w.shed w.stand m'
   feed_yes a w m' h e z k = feed-accepted w m' h (sym e.failed ∙ z) k
 
--- the analyzer is handed back with the stand
-pub handed_back : {s : Stand} {m m' : Stores} {b : Bar} (r : FeedAnswer) (u : Updated)
-    → u ≡ record { czsc = record { stand = r.stand }; failed = r.failed; made = r.made; broken = r.broken; shed = r.shed }
-    → FeedIs s m b r.failed r.made r.broken r.shed r.stand m' → FeedIs s m b u.failed u.made u.broken u.shed u.czsc.stand m'
-handed_back {s = s} {m = m} {m' = m'} {b = b} r u e f = subst (λ (x : Updated). FeedIs s m b x.failed x.made x.broken x.shed x.czsc.stand m') (sym e) f
+-- a question has a number
+pub numbered : (q : Question) → number q ≡ 0 → ⊥
+numbered MinimumLength e = absurd (omega arith)
+numbered MostStrokes e = absurd (omega arith)
+numbered Rooms e = absurd (omega arith)
+numbered Sound e = absurd (omega arith)
+numbered Time e = absurd (omega arith)
+numbered Prices e = absurd (omega arith)
+numbered Volumes e = absurd (omega arith)
+numbered LowAtMostHigh e = absurd (omega arith)
+numbered NotEarlier e = absurd (omega arith)
+numbered RawRoom e = absurd (omega arith)
+numbered UnfinishedRoom e = absurd (omega arith)
+numbered StrokeRoom e = absurd (omega arith)
+numbered Exists e = absurd (omega arith)
+numbered OutputRoom e = absurd (omega arith)
+numbered Summary e = absurd (omega arith)
+numbered Places e = absurd (omega arith)
+numbered Record e = absurd (omega arith)
+numbered Digits e = absurd (omega arith)
 
--- no column changes its length
-pub fed_lengths : {s s' : Stand} {m m' : Stores} {b : Bar} {failed made broken shed : ℕ} → IsSound s m → FeedIs s m b failed made broken shed s' m' → SameLengths m m'
-fed_lengths h f = calls_lengths (call f none) h.sizes
+-- ---- of stores that are lent to be read
+
+module _ {r r' : RawStore} {u u' k k' : MergedStore} {f f' : FractalStore} (hr : r ≡ r') (hu : u ≡ u') (hk : k ≡ k') (hf : f ≡ f') where
+  seen_stores : stores_of r u k f ≡ stores_of r' u' k' f'
+  seen_stores = λ i. stores_of (hr i) (hu i) (hk i) (hf i)
+
+  pub asked_seen : (s : Stand) (b : Bar) (a : Asked) → AskedOf (settings_of s) (state_of s (stores_of r u k f)) b a → AskedOf (settings_of s) (state_of s (stores_of r' u' k' f')) b a
+  asked_seen s b a h = subst (λ (m : Stores). AskedOf (settings_of s) (state_of s m) b a) seen_stores h
+
+  pub sound_seen : (s : Stand) (t : Bool) → t ≡ question4 s (stores_of r u k f) → question4 s (stores_of r' u' k' f') ≡ t
+  sound_seen s t h = sym (h ∙ ap (question4 s) seen_stores)

@@ -8,3 +8,4 @@ pub mod PortReached
 pub mod PortRaw
 pub mod PortDemand3
 pub mod FeedLaws
+pub mod AskedNumber

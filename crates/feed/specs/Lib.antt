@@ -1,3 +1,5 @@
 pub mod PortCalls
 pub mod StrokesLeft
 pub mod PortClaims
+pub mod Answers
+pub mod Code

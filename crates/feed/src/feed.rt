@@ -1,64 +1,38 @@
 // Feed: update_bar of the source. Every question is asked before anything is written, so that a refusal leaves every cell as it was.
 ghost use Rattle.std.specs.Prelude.{◌≡◌};
-ghost use Rattle.strokes.specs.Lent.{held, before, after};
+ghost use Rattle.bars.specs.Refusals.{number};
+ghost use Rattle.strokes.specs.Columns.{written_in, SameColumns};
 ghost use Rattle.sound.specs.StandSound.{IsSound};
 ghost use Rattle.check_bi.specs.Code.Windows.{NoFractals};
-ghost use Rattle.feed.specs.PortCalls.{FeedIs};
+ghost use Rattle.feed.specs.Answers.{FeedAnswers};
 ghost use Rattle.feed.specs.PortClaims.{PortDemand3};
+ghost use Rattle.feed.specs.Code.AskedNumber.{OfFeed};
 
-use bars::Bar;
-use strokes::Stand;
+use crate::Events;
+use bars::{Bar, Question};
+use stores::{MergedColumnsMut, RawColumnsMut};
+use strokes::{FractalColumnsMut, Stand, StoreColumns};
 
-// CZSC of the source: the stand by value, of which update_bar is a method. What it holds lies in lent stores.
+// CZSC of the source: the stand, of which update_bar is a method. What it holds lies in lent stores.
 #[derive(Clone, Copy)]
 pub struct Czsc {
     pub stand: Stand,
 }
 
-// What a feed answers: the number of the first question that was answered "no", or 0, then strokes made, broken and shed, each 0 or 1;
-// and the analyzer, handed back.
-#[derive(Clone, Copy)]
-pub struct Updated {
-    pub czsc: Czsc,
-    pub failed: u64,
-    pub made: u64,
-    pub broken: u64,
-    pub shed: u64,
-}
-
-// The same, with the bare stand: for callers that hold no Czsc.
-#[derive(Clone, Copy)]
-pub struct FeedAnswer {
-    pub stand: Stand,
-    pub failed: u64,
-    pub made: u64,
-    pub broken: u64,
-    pub shed: u64,
-}
-
-fn refused(stand: Stand, failed: u64) -> FeedAnswer
-    ensures { result ≡ record { stand = stand; failed = failed; made = 0; broken = 0; shed = 0 } }
+// The question of this number, among those that a feed asks after question 4.
+fn question_of(failed: u64) -> Question
+    requires { OfFeed failed }
+    ensures { number result ≡ failed }
 {
-    FeedAnswer {
-        stand,
-        failed,
-        made: 0,
-        broken: 0,
-        shed: 0,
-    }
-}
-
-fn handed_back(r: FeedAnswer) -> Updated
-    ensures { result ≡ record { czsc = record { stand = r.stand }; failed = r.failed; made = r.made; broken = r.broken; shed = r.shed } }
-{
-    let stand = r.stand;
-    let czsc = Czsc { stand };
-    Updated {
-        czsc,
-        failed: r.failed,
-        made: r.made,
-        broken: r.broken,
-        shed: r.shed,
+    match failed {
+        5 => Question::Time,
+        6 => Question::Prices,
+        7 => Question::Volumes,
+        8 => Question::LowAtMostHigh,
+        9 => Question::NotEarlier,
+        10 => Question::RawRoom,
+        11 => Question::UnfinishedRoom,
+        _ => Question::StrokeRoom,
     }
 }
 
@@ -66,87 +40,76 @@ fn handed_back(r: FeedAnswer) -> Updated
 // from_fresh, whose stands come from a fresh analyzer and which asks the one clause that can fail there. The first `clear` windows of the unfinished bars hold no
 // fractal: a caller that knows of none says 0.
 pub fn feed_sound(
-    stand: Stand,
-    rt: &mut [i64],
-    ri: &mut [i32],
-    rp: &mut [[f64; 6]],
-    ut: &mut [i64],
-    ui: &mut [i32],
-    up: &mut [[f64; 6]],
-    uc: &mut [usize],
-    ue: &mut [[i64; 101]],
-    st: &mut [i64],
-    si: &mut [i32],
-    sp: &mut [[f64; 6]],
-    sc: &mut [usize],
-    se: &mut [[i64; 101]],
-    fs: &mut [[i64; 6]],
-    fp: &mut [[f64; 18]],
+    stand: &mut Stand,
+    raw: &mut RawColumnsMut<'_>,
+    unfinished: &mut MergedColumnsMut<'_>,
+    strokes: &mut MergedColumnsMut<'_>,
+    fractals: &mut FractalColumnsMut<'_>,
     b: Bar,
     clear: usize,
-) -> FeedAnswer
-    requires fact_1 { IsSound stand (held rt ri rp ut ui up uc ue st si sp sc se fs fp) }
-    requires fact_2 { NoFractals up.old clear }
-    ensures { FeedIs stand (before rt ri rp ut ui up uc ue st si sp sc se fs fp) b result.failed result.made result.broken result.shed result.stand (after rt ri rp ut ui up uc ue st si sp sc se fs fp) }
+) -> Result<Events, Question>
+    requires sound { IsSound stand.old (written_in raw.old unfinished.old strokes.old fractals.old) }
+    requires clear { NoFractals unfinished.old.prices.now clear }
+    ensures feed { FeedAnswers stand.old (written_in raw.old unfinished.old strokes.old fractals.old) b result stand.new (written_in raw.new unfinished.new strokes.new fractals.new) }
+    ensures same { SameColumns raw.old unfinished.old strokes.old fractals.old raw.new unfinished.new strokes.new fractals.new }
 {
+    let r = raw.seen();
+    let u = unfinished.seen();
+    let k = strokes.seen();
+    let f = fractals.seen();
     let asked = asking::ask(
-        stand, rt, ri, rp, ut, ui, up, uc, ue, st, si, sp, sc, se, fs, fp, b, clear,
+        *stand, r.times, r.ids, r.prices, u.times, u.ids, u.prices, u.counts, u.elements, k.times,
+        k.ids, k.prices, k.counts, k.elements, f.stamps, f.prices, b, clear,
     );
-    let failed = asked.failed;
-    if failed != 0 {
-        return refused(stand, failed);
+    if asked.failed != 0 {
+        return Err(question_of(asked.failed));
     }
-    let later = asked.later;
-    let plan = asked.plan;
     let w = writing::write(
-        stand, rt, ri, rp, ut, ui, up, uc, ue, st, si, sp, sc, se, fs, fp, later, plan, b,
+        *stand,
+        raw,
+        unfinished,
+        strokes,
+        fractals,
+        asked.later,
+        asked.plan,
+        b,
     );
-    let kept = w.stand;
-    let made = w.made;
-    let broken = w.broken;
-    let shed = w.shed;
-    FeedAnswer {
-        stand: kept,
-        failed: 0,
-        made,
-        broken,
-        shed,
-    }
+    *stand = w.stand;
+    Ok(Events {
+        made: w.made,
+        broken: w.broken,
+        shed: w.shed,
+    })
 }
 
 impl Czsc {
     // A bar is fed. The contract says what each answer is, refusals too, and what every list of such calls from a fresh analyzer has: demand 3.
     // The cells beyond the counts are free; the lengths of the stores are not.
     pub fn update_bar(
-        self,
-        rt: &mut [i64],
-        ri: &mut [i32],
-        rp: &mut [[f64; 6]],
-        ut: &mut [i64],
-        ui: &mut [i32],
-        up: &mut [[f64; 6]],
-        uc: &mut [usize],
-        ue: &mut [[i64; 101]],
-        st: &mut [i64],
-        si: &mut [i32],
-        sp: &mut [[f64; 6]],
-        sc: &mut [usize],
-        se: &mut [[i64; 101]],
-        fs: &mut [[i64; 6]],
-        fp: &mut [[f64; 18]],
+        &mut self,
+        raw: &mut RawColumnsMut<'_>,
+        unfinished: &mut MergedColumnsMut<'_>,
+        strokes: &mut MergedColumnsMut<'_>,
+        fractals: &mut FractalColumnsMut<'_>,
         b: Bar,
-    ) -> Updated
-        ensures { FeedIs self.stand (before rt ri rp ut ui up uc ue st si sp sc se fs fp) b result.failed result.made result.broken result.shed result.czsc.stand (after rt ri rp ut ui up uc ue st si sp sc se fs fp) × PortDemand3 }
+    ) -> Result<Events, Question>
+        ensures feed { FeedAnswers self.old.stand (written_in raw.old unfinished.old strokes.old fractals.old) b result self.new.stand (written_in raw.new unfinished.new strokes.new fractals.new) }
+        ensures demand3 { PortDemand3 }
+        ensures same { SameColumns raw.old unfinished.old strokes.old fractals.old raw.new unfinished.new strokes.new fractals.new }
     {
-        let stand = self.stand;
-        if question4::is_sound(
-            stand, rt, ri, rp, ut, ui, up, uc, ue, st, si, sp, sc, se, fs, fp,
-        ) {
-            let r = feed_sound(
-                stand, rt, ri, rp, ut, ui, up, uc, ue, st, si, sp, sc, se, fs, fp, b, 0,
-            );
-            return handed_back(r);
+        let r = raw.seen();
+        let u = unfinished.seen();
+        let k = strokes.seen();
+        let f = fractals.seen();
+        let stores = StoreColumns {
+            raw: r,
+            unfinished: u,
+            strokes: k,
+            fractals: f,
+        };
+        if question4::is_sound(self.stand, stores) {
+            return feed_sound(&mut self.stand, raw, unfinished, strokes, fractals, b, 0);
         }
-        handed_back(refused(stand, 4))
+        Err(Question::Sound)
     }
 }

@@ -1,6 +1,7 @@
 -- A later bar that makes no stroke, where none was kept, changes the unfinished bars at the ends only: some of the first are cut off, and the bar is put on behind or
 -- merged into the last. So where the first windows hold no fractal, those that are left hold none afterwards, but for the one that the merged bar comes into.
 -- Assumes nothing.
+use Rattle.std.specs.Prelude.{None}
 use Prim.Native.Nat.{ℕ, zero, suc, ◌+◌, ◌-◌, ◌≤◌, ◌<◌}
 use native.Mathlib.Omega.{arith}
 use mathlib.Core.Path.{◌≡◌, refl, ap, sym, ◌∙◌}
@@ -26,7 +27,7 @@ use Rattle.machine.specs.Strokes.{Stroke, Found, check_bi, cut}
 use Rattle.machine.specs.Stand.{Settings, State}
 use Rattle.machine.specs.Feed.{Moved, Events, is_later, raw_with, merged_with, add_found, add_made, make_after, move_after, move_if, move, shed_if, drop_early, finish_if, finish, step_with, step}
 use Rattle.machine.proofs.FewerFractals.{nothing_found, MadeFrom, check_outcome}
-use Rattle.check_bi.specs.Code.Scan.{candle_of, taken_of, scan_of}
+use Rattle.check_bi.specs.Code.Scan.{candle_of, taken_of, scan_of, cut_place}
 use Rattle.check_bi.specs.Code.View.{candle_from}
 use Rattle.check_bi.specs.Code.Windows.{bar_at, taken_at, NoFractals}
 use Rattle.check_bi.proofs.ScanPlaces.{cut_means}
@@ -84,7 +85,7 @@ move_by : (t : Bool) (minimum : ℕ) (l : List Merged) → (move_if t minimum l 
 unfolding move_if move_after make_after
 move_by true minimum l h =
     let a = add_unmade minimum (cut l) (check_bi minimum (cut l)) (check_outcome minimum (cut l)) h in
-    record { place = (scan_of (map candle_of l)).cut.place; left = a.0 ∙ cut_means l; kept = a.1 }
+    record { place = cut_place (scan_of (map candle_of l)); left = a.0 ∙ cut_means l; kept = a.1 }
 move_by false minimum l h = record { place = 0; left = refl; kept = refl }
 
 move_unmade : (minimum : ℕ) (l : List Merged) (bs : List Stroke) → bs ≡ [] → (move minimum l bs).made ≡ 0 → Unmade l (move minimum l bs)
@@ -131,7 +132,7 @@ step_left c x b e h r = left_by c.minimum c.most x b e (is_later (last x.raw) b)
 -- ---- windows of bars and of rows
 
 abbrev window : Merged → List Merged → ℕ → Bool
-window x l j = taken_of true D (candle_of (get_or l j x)) (candle_of (get_or l (j + 1) x)) (candle_of (get_or l (j + 2) x))
+window x l j = taken_of None (candle_of (get_or l j x)) (candle_of (get_or l (j + 1) x)) (candle_of (get_or l (j + 2) x))
 
 -- a window of what is left is one of the bars before
 window_kept : (x : Merged) (l : List Merged) (b : Bar) (k j : ℕ) → j + 3 < length (drop k (merge_in l b)) → window x (drop k (merge_in l b)) j ≡ window x l (k + j)
@@ -143,7 +144,7 @@ window_kept x l b k j h =
     get_or-drop k (merge_in l b) (j + i) x ∙ ap (λ (p : ℕ). get_or (merge_in l b) p x) e ∙ merge_keeps x b l (k + j + i) (omega arith)) in
     let first : get_or (drop k (merge_in l b)) j x ≡ get_or l (k + j) x =
     get_or-drop k (merge_in l b) j x ∙ merge_keeps x b l (k + j) (omega arith) in
-    λ i. taken_of true D (candle_of (first i)) (candle_of (at 1 (omega arith) i)) (candle_of (at 2 (omega arith) i))
+    λ i. taken_of None (candle_of (first i)) (candle_of (at 1 (omega arith) i)) (candle_of (at 2 (omega arith) i))
 
 module _ (x : Merged) (u : MergedStore) (room n : ℕ) (h : SizedMerged u room) (fits : n ≤ room) where
   candle-at : (i : ℕ) → i < n → candle_of (get_or (take n (merged_bars u)) i x) ≡ bar_at u.times u.prices i
@@ -157,9 +158,9 @@ module _ (x : Merged) (u : MergedStore) (room n : ℕ) (h : SizedMerged u room) 
       ap candle_of (get_or-take n (merged_bars u) i x g
       ∙ merged-at u i x (record { raw = record { times = omega arith; ids = omega arith; prices = omega arith }; counts = omega arith; elements = omega arith }))
 
-  row_window : (j : ℕ) → j + 2 < n → window x (take n (merged_bars u)) j ≡ taken_at u.prices true D j
+  row_window : (j : ℕ) → j + 2 < n → window x (take n (merged_bars u)) j ≡ taken_at u.prices None j
   row_window j g =
-      taken_timed u.prices true D j _ _ _ _ refl u.times (candle-at j (omega arith)) (candle-at (j + 1) (omega arith)) (candle-at (j + 2) (omega arith))
+      taken_timed u.times u.prices None j _ _ _ (candle-at j (omega arith)) (candle-at (j + 1) (omega arith)) (candle-at (j + 2) (omega arith))
 
 -- ---- what is read of the stand and its stores
 
@@ -177,7 +178,7 @@ module _ (s : Stand) (m : Stores) (f : Lengths s m) where
   unfinished_read =
       length-take-le s.unfinished (merged_bars m.unfinished) (rw (merged-length m.unfinished s.rooms.unfinished f.unfinished) f.few-unfinished)
 
-  window_read : (x : Merged) (j : ℕ) → j + 2 < s.unfinished → window x (state_of s m).unfinished j ≡ taken_at m.unfinished.prices true D j
+  window_read : (x : Merged) (j : ℕ) → j + 2 < s.unfinished → window x (state_of s m).unfinished j ≡ taken_at m.unfinished.prices None j
   unfolding state_of
   window_read x j h = row_window x m.unfinished s.rooms.unfinished s.unfinished f.unfinished f.few-unfinished j h
 

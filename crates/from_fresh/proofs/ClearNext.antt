@@ -1,4 +1,5 @@
 -- The windows that hold no fractal, from feed to feed: what is known before the first, what clear_after asks, and what it answers. Assumes nothing.
+use Rattle.std.specs.Prelude.{None}
 use Prim.Native.Nat.{ℕ, zero, suc, ◌+◌, ◌-◌, ◌≤◌, ◌<◌}
 use native.Mathlib.Omega.{arith}
 use mathlib.Core.Path.{◌≡◌, refl, ap, sym, subst}
@@ -16,6 +17,8 @@ use Rattle.strokes.specs.declared.Stand.{Stand}
 use Rattle.strokes.specs.Lent.{Stores}
 use Rattle.sound.proofs.NewestLaws.{lengths}
 use Rattle.feed.specs.PortCalls.{FeedIs}
+use Rattle.stores.specs.Stores.{MergedStore}
+use Rattle.from_fresh.specs.declared.windows.Counts.{Counts}
 use Rattle.from_fresh.specs.FromFresh.{FromFresh}
 use Rattle.from_fresh.specs.Code.ClearWindows.{Clear, ClearAfter}
 use Rattle.from_fresh.proofs.FromFreshLaws.{from-fresh-sizes, from-fresh-small}
@@ -45,9 +48,9 @@ can_look {s = s} {s' = s'} {m' = m'} {c = c} x k y =
 
 module _ (ps : List (List Float)) (strokes made raw raw' u u' c : ℕ) where
   pub none-known : ClearAfter ps strokes made raw raw' u u' c 0
-  none-known = record { known = 0; kept = λ h. absurd (omega arith); looked = none_yet (taken_at ps true D) u' 0 }
+  none-known = record { known = 0; kept = λ h. absurd (omega arith); looked = none_yet (taken_at ps None) u' 0 }
 
-  pub looked_on : (k r : ℕ) → strokes ≡ 0 → made ≡ 0 → (0 < k → (0 < c) × (raw' ≡ raw + 1) × (k ≡ c + u' - (u + 1))) → NoneBetween (taken_at ps true D) u' k r
+  pub looked_on : (k r : ℕ) → strokes ≡ 0 → made ≡ 0 → (0 < k → (0 < c) × (raw' ≡ raw + 1) × (k ≡ c + u' - (u + 1))) → NoneBetween (taken_at ps None) u' k r
       → ClearAfter ps strokes made raw raw' u u' c r
   looked_on k r z y h n = record { known = k; kept = λ p. (z, y, (h p).0, (h p).1, (h p).2); looked = n }
 
@@ -66,7 +69,7 @@ module _ {s s' : Stand} {m m' : Stores} {b : Bar} {failed made broken shed c r :
       let g = subst (λ (n : ℕ). FeedIs s m b n made broken shed s' m') (fed-later failed f w.3) f in
       subst (NoFractals m'.unfinished.prices) (sym w.4) (clear_left g (from-fresh-sizes x) w.0 w.1 w.3 c k.none (k.within w.2))
 
-  none_of : (j : ℕ) → j < r → (j < a.known) ⊎ (a.known ≤ j) → taken_at m'.unfinished.prices true D j ≡ false
+  none_of : (j : ℕ) → j < r → (j < a.known) ⊎ (a.known ≤ j) → taken_at m'.unfinished.prices None j ≡ false
   none_of j h (inl p) = left (omega arith) j p
   none_of j h (inr p) = a.looked.none j p h
 
@@ -81,3 +84,32 @@ module _ {s s' : Stand} {m m' : Stores} {b : Bar} {failed made broken shed c r :
 
   pub clear_next : Clear s' m' r
   clear_next = record { none = λ j h. none_of j h (lt-or_ge j a.known); within = λ h. within_of h (lt-or_ge a.known r) }
+
+-- ---- as the code has them: the counts before and after the feed, and the unfinished bars afterwards
+
+abbrev counts_of : Stand → Counts
+counts_of s = record { strokes = s.strokes; raw = s.raw; unfinished = s.unfinished }
+
+module _ {s s' : Stand} {m m' : Stores} {c : ℕ} (before after : Counts) (u : MergedStore) (x : FromFresh s m) (k : Clear s m c) (eb : before ≡ counts_of s) (ea : after ≡ counts_of s') (eu : u ≡ m'.unfinished) where
+  pub can_look_on : FromFresh s' m'
+      → (before.raw < 4294967296) × (before.unfinished < 4294967296) × (after.unfinished < 4294967296) × (c ≤ before.unfinished) × (after.unfinished ≤ length u.prices)
+  can_look_on y =
+      let p = can_look x k y in
+      let b1 : before.raw ≡ s.raw = ap (λ (z : Counts). z.raw) eb in
+      let b2 : before.unfinished ≡ s.unfinished = ap (λ (z : Counts). z.unfinished) eb in
+      let a2 : after.unfinished ≡ s'.unfinished = ap (λ (z : Counts). z.unfinished) ea in
+      let l : length u.prices ≡ length m'.unfinished.prices = ap (λ (z : MergedStore). length z.prices) eu in
+      let p0 = p.0 in
+      let p1 = p.1 in
+      let p2 = p.2 in
+      let p3 = p.3 in
+      let p4 = p.4 in
+      (omega arith, omega arith, omega arith, omega arith, omega arith)
+
+  pub looked_after : {b : Bar} {failed made broken shed r : ℕ} → FeedIs s m b failed made broken shed s' m'
+      → ClearAfter u.prices before.strokes made before.raw after.raw before.unfinished after.unfinished c r → Clear s' m' r
+  looked_after {made = made} {r = r} f a =
+      clear_next x k f
+      (subst (λ (z : MergedStore). ClearAfter z.prices s.strokes made s.raw s'.raw s.unfinished s'.unfinished c r) eu
+      (subst (λ (z : Counts). ClearAfter u.prices s.strokes made s.raw z.raw s.unfinished z.unfinished c r) ea
+      (subst (λ (z : Counts). ClearAfter u.prices z.strokes made z.raw after.raw z.unfinished after.unfinished c r) eb a)))

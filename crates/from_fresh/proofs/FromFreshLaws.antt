@@ -1,7 +1,7 @@
 -- What comes from a fresh analyzer by feeds: where it begins, how it goes on, and that of question 4 only the newest raw bar is in doubt there. Assumes nothing.
 use Prim.Native.Nat.{ℕ, ◌≤◌}
 use native.Mathlib.Omega.{arith}
-use mathlib.Core.Path.{◌≡◌, sym, ◌∙◌, refl, subst}
+use mathlib.Core.Path.{◌≡◌, ap, sym, ◌∙◌, subst}
 use mathlib.Core.Bool.{Bool, true, false, ◌&&◌}
 use mathlib.Core.List.{List, [], ◌∷◌, ◌++◌}
 use lib.Dec.{T, leb, leb→le}
@@ -13,6 +13,7 @@ use Rattle.machine.specs.Soundness.{is_room, rooms_pass, newest_last}
 use Rattle.machine.specs.Calls.{none_yet}
 use Rattle.strokes.specs.declared.Stand.{Stand}
 use Rattle.strokes.specs.StateRead.{settings_of, state_of, sized}
+use Rattle.stores.specs.Stores.{RawStore, MergedStore}
 use Rattle.strokes.specs.Lent.{Stores}
 use Rattle.sound.specs.FreshStand.{fresh_of}
 use Rattle.sound.specs.StandSound.{IsSound, stores_sound}
@@ -23,12 +24,9 @@ use Rattle.sound.proofs.NewestLaws.{lengths, newest-room}
 use Rattle.question4.specs.Question4.{question4}
 use Rattle.question4.proofs.Question4Passed.{is-sound}
 use Rattle.feed.specs.PortCalls.{FeedIs, added, PortCalls, none, call}
-use Rattle.feed.specs.PortClaims.{PortDemand3}
 use Rattle.feed.proofs.FeedLaws.{feed_unsound}
-use Rattle.feed.proofs.PortDemand3.{port_demand3}
 use Rattle.feed.proofs.PortReached.{reached_asks, reached_sizes}
-use Rattle.feed.proofs.PortStays.{settings_stay, calls_lengths}
-use Rattle.writing.proofs.SameLengths.{SameLengths}
+use Rattle.feed.proofs.PortStays.{settings_stay}
 use Rattle.from_fresh.specs.FromFresh.{FromFresh, fresh_calls}
 use Rattle.from_fresh.proofs.OneMoreCall.{events, port_snoc}
 
@@ -87,24 +85,19 @@ module _ {s : Stand} {m : Stores} (x : FromFresh s m) where
       let b = leb→le r.unfinished 65536 (and_r (leb 16 r.unfinished) (leb r.unfinished 65536) (and_l (is_room r.unfinished) (is_room r.strokes) (and_r (is_room r.raw) v rooms_pass_lem))) in
       (omega arith, omega arith)
 
-  -- as the step asks it
-  pub newest_can : NewestRoom s m.raw.times m.unfinished.counts m.unfinished.elements
-  newest_can = newest-room s m from-fresh-sizes
+  -- as the step asks it, of the columns lent to be read
+  module _ {r : RawStore} {u : MergedStore} (er : r ≡ m.raw) (eu : u ≡ m.unfinished) where
+    pub newest_can : NewestRoom s r.times u.counts u.elements
+    newest_can =
+        subst (λ (r : RawStore). NewestRoom s r.times u.counts u.elements) (sym er)
+        (subst (λ (u : MergedStore). NewestRoom s m.raw.times u.counts u.elements) (sym eu) (newest-room s m from-fresh-sizes))
 
-  asked_4 : {t : Bool} → NewestIs s m.raw.times m.unfinished.counts m.unfinished.elements t → question4 s m ≡ t
-  asked_4 a = from-fresh_asks ∙ sym (a.answer m from-fresh-sizes refl refl refl)
+    asked_4 : {t : Bool} → NewestIs s r.times u.counts u.elements t → question4 s m ≡ t
+    asked_4 a =
+        from-fresh_asks ∙ sym (a.answer m from-fresh-sizes (ap (λ (r : RawStore). r.times) (sym er)) (ap (λ (u : MergedStore). u.counts) (sym eu)) (ap (λ (u : MergedStore). u.elements) (sym eu)))
 
-  pub newest_yes : {t : Bool} → NewestIs s m.raw.times m.unfinished.counts m.unfinished.elements t → t ≡ true → IsSound s m
-  newest_yes a e = is-sound s m (asked_4 a ∙ e)
+    pub newest_yes : {t : Bool} → NewestIs s r.times u.counts u.elements t → t ≡ true → IsSound s m
+    newest_yes a e = is-sound s m (asked_4 a ∙ e)
 
-  pub newest_no : {t : Bool} (b : Bar) → NewestIs s m.raw.times m.unfinished.counts m.unfinished.elements t → t ≡ false → FeedIs s m b 4 0 0 0 s m
-  newest_no b a e = feed_unsound s m b (asked_4 a ∙ e)
-
-  -- no column changes its length
-  pub step_lengths : {t : Stand} {k : Stores} {b : Bar} {failed made broken shed : ℕ} → FeedIs s m b failed made broken shed t k → SameLengths m k
-  step_lengths f = calls_lengths (call f none) from-fresh-sizes
-
-  -- what the step ensures
-  pub step_is : {t : Stand} {k : Stores} {b : Bar} {failed made broken shed : ℕ} → FeedIs s m b failed made broken shed t k
-      → (FeedIs s m b failed made broken shed t k × PortDemand3) × FromFresh t k
-  step_is f = ((f, port_demand3), from-fresh-next x f)
+    pub newest_no : {t : Bool} (b : Bar) → NewestIs s r.times u.counts u.elements t → t ≡ false → FeedIs s m b 4 0 0 0 s m
+    newest_no b a e = feed_unsound s m b (asked_4 a ∙ e)

@@ -2,56 +2,42 @@
 #![tactic(auto)]
 
 ghost use Rattle.check_bi.specs.Code.Windows.{NoFractals};
-ghost use Rattle.strokes.specs.Lent.{held, before, after};
-ghost use Rattle.feed.specs.PortCalls.{FeedIs};
+ghost use Rattle.strokes.specs.Columns.{written_in, SameColumns};
+ghost use Rattle.feed.specs.Answers.{FeedAnswers};
 ghost use Rattle.feed.specs.PortClaims.{PortDemand3};
 ghost use Rattle.from_fresh.specs.FromFresh.{FromFresh};
 
 mod windows;
 
-use bars::Bar;
-use feed::{FeedAnswer, feed_sound};
-use strokes::Stand;
-pub use windows::clear_after;
+use bars::{Bar, Question};
+use feed::{Events, feed_sound};
+use stores::{MergedColumnsMut, RawColumnsMut};
+use strokes::{FractalColumnsMut, Stand};
+pub use windows::{Counts, clear_after};
 
 // update_bar of a stand and stores that a list of feeds from a fresh analyzer left. What update_bar ensures; and what is left again comes from a fresh analyzer, so that the next bar may follow. Of
 // question 4 it asks the clause on the newest raw bar alone, at constant cost: the other clauses hold of every such stand. The first `clear` windows of the unfinished bars hold no fractal: 0, or what
 // clear_after answered of the feed before.
 pub fn update_from_fresh(
-    stand: Stand,
-    rt: &mut [i64],
-    ri: &mut [i32],
-    rp: &mut [[f64; 6]],
-    ut: &mut [i64],
-    ui: &mut [i32],
-    up: &mut [[f64; 6]],
-    uc: &mut [usize],
-    ue: &mut [[i64; 101]],
-    st: &mut [i64],
-    si: &mut [i32],
-    sp: &mut [[f64; 6]],
-    sc: &mut [usize],
-    se: &mut [[i64; 101]],
-    fs: &mut [[i64; 6]],
-    fp: &mut [[f64; 18]],
+    stand: &mut Stand,
+    raw: &mut RawColumnsMut<'_>,
+    unfinished: &mut MergedColumnsMut<'_>,
+    strokes: &mut MergedColumnsMut<'_>,
+    fractals: &mut FractalColumnsMut<'_>,
     b: Bar,
     clear: usize,
-) -> FeedAnswer
-    requires fact_1 { FromFresh stand (held rt ri rp ut ui up uc ue st si sp sc se fs fp) }
-    requires fact_2 { NoFractals up.old clear }
-    ensures feed_is { FeedIs stand (before rt ri rp ut ui up uc ue st si sp sc se fs fp) b result.failed result.made result.broken result.shed result.stand (after rt ri rp ut ui up uc ue st si sp sc se fs fp) × PortDemand3 }
-    ensures from_fresh { FromFresh result.stand (after rt ri rp ut ui up uc ue st si sp sc se fs fp) }
+) -> Result<Events, Question>
+    requires from_fresh { FromFresh stand.old (written_in raw.old unfinished.old strokes.old fractals.old) }
+    requires clear { NoFractals unfinished.old.prices.now clear }
+    ensures feed { FeedAnswers stand.old (written_in raw.old unfinished.old strokes.old fractals.old) b result stand.new (written_in raw.new unfinished.new strokes.new fractals.new) }
+    ensures demand3 { PortDemand3 }
+    ensures from_fresh { FromFresh stand.new (written_in raw.new unfinished.new strokes.new fractals.new) }
+    ensures same { SameColumns raw.old unfinished.old strokes.old fractals.old raw.new unfinished.new strokes.new fractals.new }
 {
-    if sound::newest_is_last(stand, rt, uc, ue) {
-        return feed_sound(
-            stand, rt, ri, rp, ut, ui, up, uc, ue, st, si, sp, sc, se, fs, fp, b, clear,
-        );
+    let r = raw.seen();
+    let u = unfinished.seen();
+    if sound::newest_is_last(*stand, r.times, u.counts, u.elements) {
+        return feed_sound(stand, raw, unfinished, strokes, fractals, b, clear);
     }
-    FeedAnswer {
-        stand,
-        failed: 4,
-        made: 0,
-        broken: 0,
-        shed: 0,
-    }
+    Err(Question::Sound)
 }

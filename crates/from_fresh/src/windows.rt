@@ -2,55 +2,48 @@
 ghost use Rattle.std.specs.Prelude.{◌≡◌, ◌+◌, ◌-◌, ◌≤◌, ◌<◌, length};
 ghost use Rattle.from_fresh.specs.Code.ClearWindows.{ClearAfter};
 
-use machine::Mark;
+use strokes::Stand;
 
-// How many of `clear` windows are known yet after a feed, by the raw and the unfinished bars before and after it. The merged bars but the last stay as they are where the bar is later; one with the last
-// time is merged anew, and then none is known.
-fn known_after(
-    raw: usize,
-    raw_after: usize,
-    unfinished: usize,
-    unfinished_after: usize,
-    clear: usize,
-) -> usize
-    requires { (raw < 4294967296) × (unfinished < 4294967296) × (unfinished_after < 4294967296) × (clear ≤ unfinished) }
-    ensures { (0 < result → (0 < clear) × (raw_after ≡ raw + 1) × (result ≡ clear + unfinished_after - (unfinished + 1))) × (result ≤ unfinished_after) }
+// How many strokes, raw and unfinished bars a stand holds: what is to be known of the one before a feed, which changes it.
+#[derive(Clone, Copy)]
+pub struct Counts {
+    pub strokes: usize,
+    pub raw: usize,
+    pub unfinished: usize,
+}
+
+impl Counts {
+    pub fn of(stand: &Stand) -> Counts
+        ensures { result ≡ record { strokes = stand.now.strokes; raw = stand.now.raw; unfinished = stand.now.unfinished } }
+    {
+        Counts {
+            strokes: stand.strokes,
+            raw: stand.raw,
+            unfinished: stand.unfinished,
+        }
+    }
+}
+
+// How many of `clear` windows are known yet after a feed. The merged bars but the last stay as they are where the bar is later; one with the last time is merged anew, and then none is known.
+fn known_after(before: Counts, after: Counts, clear: usize) -> usize
+    requires { (before.raw < 4294967296) × (before.unfinished < 4294967296) × (after.unfinished < 4294967296) × (clear ≤ before.unfinished) }
+    ensures { (0 < result → (0 < clear) × (after.raw ≡ before.raw + 1) × (result ≡ clear + after.unfinished - (before.unfinished + 1))) × (result ≤ after.unfinished) }
 {
-    if clear == 0 {
+    if clear == 0 || after.raw != before.raw + 1 {
         return 0;
     }
-    if raw_after != raw + 1 {
-        return 0;
-    }
-    let known = clear + unfinished_after;
-    if known <= unfinished {
-        return 0;
-    }
-    known - unfinished - 1
+    (clear + after.unfinished).saturating_sub(before.unfinished + 1)
 }
 
 // How many of the first windows of the unfinished bars, whose rows of prices are up, hold no fractal after a feed, if `clear` did before it: from those that are known yet on to the first fractal. With
 // a stroke kept before the feed or made by it, nothing is looked at. Nothing need be known: 0 is always true.
-pub fn clear_after(
-    strokes: usize,
-    made: u64,
-    raw: usize,
-    raw_after: usize,
-    unfinished: usize,
-    unfinished_after: usize,
-    up: &[[f64; 6]],
-    clear: usize,
-) -> usize
-    requires { (raw < 4294967296) × (unfinished < 4294967296) × (unfinished_after < 4294967296) × (clear ≤ unfinished) × (unfinished_after ≤ length up.now) }
-    ensures { ClearAfter up.now strokes made raw raw_after unfinished unfinished_after clear result }
+pub fn clear_after(before: Counts, after: Counts, made: u64, up: &[[f64; 6]], clear: usize) -> usize
+    requires { (before.raw < 4294967296) × (before.unfinished < 4294967296) × (after.unfinished < 4294967296) × (clear ≤ before.unfinished) × (after.unfinished ≤ length up.now) }
+    ensures { ClearAfter up.now before.strokes made before.raw after.raw before.unfinished after.unfinished clear result }
 {
-    if strokes != 0 {
+    if before.strokes != 0 || made != 0 {
         return 0;
     }
-    if made != 0 {
-        return 0;
-    }
-    let known = known_after(raw, raw_after, unfinished, unfinished_after, clear);
-    let d = Mark::D;
-    check_bi::next_row(up, true, d, unfinished_after, known)
+    let known = known_after(before, after, clear);
+    check_bi::next_row(&up[..after.unfinished], None, known)
 }

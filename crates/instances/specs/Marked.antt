@@ -7,7 +7,7 @@ use Rattle.arith.specs.Rounding.{round_to}
 use Rattle.bars.specs.declared.Bar.{Bar}
 use Rattle.bars.specs.Bars.{Merged, own, row_of}
 use Rattle.bars.specs.Merging.{merge_all}
-use Rattle.bars.specs.declared.gaps.Gap.TheVariants as Gaps
+use Rattle.bars.specs.Gaps as Gaps
 use Rattle.bars.specs.Gaps.{gaps_of}
 use Rattle.machine.specs.declared.Mark.{Mark}
 use Rattle.machine.specs.declared.Mark.TheVariants.{D, G}

@@ -1,7 +1,7 @@
 -- Marked instances 8, 10 and 12 with other numbers of decimal places (document 02, request two): computed, as Marked is. The Rust's rounding to so many places, of the same
 -- unrounded numbers, gives the same (oracle/marked).
 use Rattle.std.specs.Prelude.{ℕ, ◌≡◌, refl, false, List, [], ◌∷◌, map, Float}
-use Rattle.bars.specs.declared.gaps.Gap.TheVariants as Gaps
+use Rattle.bars.specs.Gaps as Gaps
 use Rattle.bars.specs.Bars.{own, row_of}
 use Rattle.bars.specs.Gaps.{gaps_of}
 use Rattle.machine.specs.declared.Mark.TheVariants.{D, G}

@@ -1,6 +1,7 @@
 -- Pseudo-random runs of bars, some with the last time, and what the Rust answered to them: the added-up answers of the feeds, and the stand and the
 -- reports at the end. Where stores fill up, which the Rust has not got, a model in Python answered, and the refused feeds are told too.
 -- Written by oracle/runs; each equation is computed. Floats are exact.
+use Rattle.std.specs.Prelude as Std
 use Rattle.std.specs.Prelude.{ℕ, zero, suc, min, ◌≡◌, refl, Bool, true, false, List, [], ◌∷◌, ◌++◌, map, length, take, ℤ, pos, negsuc, Float}
 use Rattle.std.proofs.Math.Option.{Option, none, some}
 use Rattle.std.specs.Float.{fin}
@@ -10,7 +11,7 @@ use Rattle.bars.specs.Bars.{row_of}
 use Rattle.bars.specs.Lists.{join}
 use Rattle.bars.specs.Merging.{at_times}
 use Rattle.bars.specs.declared.gaps.Gap.{Gap}
-use Rattle.bars.specs.declared.gaps.Gap.TheVariants as Gaps
+use Rattle.bars.specs.Gaps as Gaps
 use Rattle.bars.specs.Gaps.{gaps_of}
 use Rattle.machine.specs.declared.Mark.{Mark}
 use Rattle.machine.specs.declared.Mark.TheVariants.{D, G}
@@ -149,7 +150,7 @@ record RunTold : Type 0 where
   -- get_ubi: direction, high, low, the times of the highest and the lowest bar, the numbers of unfinished bars, raw bars and fractals, the first one's time
   unfinished : Option (Direction × Float × Float × ℤ × ℤ × ℕ × ℕ × ℕ × ℤ)
   -- of each neighbouring pair of kept raw bars
-  gaps : List Gap
+  gaps : List (Std.Option Gap)
 
 unfoldable fx_told : Fractal → Fx
 unfolding time_of fx_of

@@ -1,2 +1,1 @@
 pub mod NanBits
-pub mod Signs

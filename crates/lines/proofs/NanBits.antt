@@ -1,16 +1,15 @@
--- Which patterns and which floats are a NaN's, by the tests of src/floats.rt. Assumes nothing.
-use mathlib.Core.Path.{◌≡◌, refl, sym, subst, ◌∙◌}
-use mathlib.Core.Bool.{Bool, false, not, true≢false}
+-- Which patterns are a NaN's, by the tests of src/floats.rt. Assumes nothing.
+use mathlib.Core.Path.{◌≡◌, refl, sym, subst}
+use mathlib.Core.Bool.{Bool, not}
 use Prim.Native.Nat.{ℕ, ◌%◌, ◌<◌, ◌≤◌}
 use lib.Dec.{T, lt→ltb}
-use lib.Ieee.{Float, nan, inf, fin, binary64, div, ne, is_nan, nan_bits, of_bits}
+use lib.Ieee.{Float, nan, inf, fin, binary64, is_nan, nan_bits, of_bits}
 use lib.Ieee.Bits.{nan_bits_is, nan_bits_above}
-use lib.Ieee.Compare.{nan_differs}
 use borrow.Author.Tests.{le-ltb}
 
--- 0.0 / 0.0
-pub nan-made : div binary64 (of_bits binary64 0) (of_bits binary64 0) ≡ nan
-unfolding div of_bits
+-- f64::NAN
+pub nan-made : of_bits binary64 9221120237041090560 ≡ nan
+unfolding of_bits
 nan-made = refl
 
 is-nan : (x : Float) → T (is_nan x) → nan ≡ x
@@ -24,9 +23,3 @@ nan_pattern n h = is-nan (of_bits binary64 n) (subst T (nan_bits_is binary64 n) 
 
 pub no_nan_pattern : (n : ℕ) → n % 9223372036854775808 ≤ 9218868437227405312 → T (not (nan_bits binary64 n))
 no_nan_pattern n h = subst (λ (b : Bool). T (not b)) (sym (nan_bits_above binary64 n)) (subst (λ (b : Bool). T (not b)) (sym (le-ltb 9218868437227405312 (n % 9223372036854775808) h)) tt)
-
-pub no_nan : (x : Float) → ne x x ≡ false → T (not (is_nan x))
-unfolding is_nan
-no_nan nan h = absurd (true≢false (sym nan_differs ∙ h))
-no_nan (inf s) h = tt
-no_nan (fin s m e) h = tt

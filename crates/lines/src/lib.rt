@@ -1,19 +1,18 @@
-// Lines of words, for the programs that answer them: floats by their bits, whole numbers, and where
-// a word ends.
+// Lines of words, for the programs that answer them: floats by their bits, whole numbers, input and output.
 #![tactic(auto)]
 
+mod answering;
 mod floats;
-mod input;
 mod numbers;
-mod output;
-mod words;
+mod reading;
+mod writing;
 
-pub use floats::{Bits, bits_of, digit, float_of, put_float, show, value_at};
-pub use input::{Cursor, asked, first_line, next_line};
-pub use numbers::{
-    Small, Whole, WholeAt, put_small, put_whole, small_of, whole_at, whole_of, write_whole,
-};
-pub use output::{
-    Buffer, Buffered, flush, flush_before_reading, large_buffer, nothing_buffered, put, put_decimal,
-};
-pub use words::{is_word, word_end};
+pub use answering::{Unanswered, answer_lines, asks, text, words_behind};
+pub use floats::{Digits, Spaced, float, float_of};
+pub use numbers::whole;
+pub use reading::{Input, buffered_input, read_line};
+use std::str::Split;
+pub use writing::{Output, buffered_output, flush_before_reading};
+
+// What is left of a line, word by word: one space stands between two of them.
+pub type Words<'a> = Split<'a, char>;

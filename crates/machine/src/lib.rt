@@ -3,14 +3,14 @@
 #![tactic(auto)]
 
 // Mark of the source: D is a bottom, G a top.
-#[derive(Clone, Copy)]
+#[derive(Clone, Copy, Debug, PartialEq, Eq)]
 pub enum Mark {
     D,
     G,
 }
 
 // Direction of the source: the way a stroke goes.
-#[derive(Clone, Copy)]
+#[derive(Clone, Copy, Debug, PartialEq, Eq)]
 pub enum Direction {
     Up,
     Down,

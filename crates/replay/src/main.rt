@@ -8,19 +8,27 @@
 #![tactic(auto)]
 
 mod analyzers;
-mod answers;
 mod calls;
-mod reading;
+mod player;
+
+use player::{Failure, Player};
+
+// One analyzer after the other.
+fn replay(rt: &HostRuntime) -> Result<(), Failure> {
+    let mut player = Player::new(rt.alloc(), rt.stdin(), rt.stdout())?;
+    let mut next = player.first()?;
+    // A proved loop has to end, and nothing says that the input does. So it counts down from a number that no run uses up.
+    for _ in 0..u64::MAX {
+        let Some(asked) = next else {
+            break;
+        };
+        next = analyzers::with_stores(&mut player, asked)?;
+    }
+    player.end()
+}
 
 fn main(rt: HostRuntime) {
-    let mut bytes = lines::large_buffer();
-    let mut line = lines::large_buffer();
-    let mut out = lines::large_buffer();
-    let mut now = reading::beginning(rt.stdin(), rt.stdout(), rt.stderr());
-    // A proved loop has to end, and nothing says that the input does. So it counts down from a number that no run uses up.
-    let mut turns = u64::MAX;
-    while turns > 0 && now.anew {
-        turns -= 1;
-        now = analyzers::with_stores(&mut out, &mut bytes, &mut line, now);
+    if let Err(failure) = replay(&rt) {
+        let _ = eprintln!(rt; "replay: {failure}");
     }
 }

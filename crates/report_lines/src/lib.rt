@@ -5,6 +5,12 @@ mod all_reports;
 mod dump;
 mod text;
 
-pub use all_reports::report;
-pub use dump::stand_lines;
-pub use text::{line_end, refusal};
+use strokes::{Stand, StoreColumns};
+pub use text::refusal;
+
+// An analyzer that is asked: its stand, and the stores that it lives in.
+#[derive(Clone, Copy)]
+pub struct Analyzer<'a> {
+    pub stand: Stand,
+    pub stores: StoreColumns<'a>,
+}

@@ -15,6 +15,8 @@ use Rattle.stores.specs.Stores.{bar_of, zip_with}
 use Rattle.stores.proofs.Columns.{zip-at, zip_length}
 use Rattle.machine.specs.Fractals.{Fractal}
 use Rattle.strokes.specs.StateRead.{row_bar, fractal_of, row_fractal, stored_fractals, no_fractal, total}
+use Rattle.strokes.specs.declared.lent_columns.FractalColumnsMut.{FractalColumnsMut}
+use Rattle.strokes.specs.Columns.{SameFractals}
 use Rattle.strokes.specs.Lent.{fractal_store}
 use Rattle.strokes.specs.Code.StrokeSteps.{RoomFractals, Fewer}
 use Rattle.strokes.specs.FractalRows.{stamps_of, prices_of, stamp_row, price_row}
@@ -50,30 +52,39 @@ step_in w x t p e = ap (λ (b : Bool). step_if b w x t p) (sym e)
 
 -- what the code returns where it writes, and where it does not
 pub step-written : (w : Bool) (ts : List (List ℤ)) (ps : List (List Float)) (s : Listed) (t : List ℤ) (p : List Float) → w ≡ true → is_after (time_listed s) (get_or t 1 (pos 0)) ≡ true
-    → listing (set ts s.count t) (set ps s.count p) (record { count = s.count + 1; time = get_or t 1 (pos 0) }) ≡ step_row w (listing ts ps s) t p
+    → listing (fractal_store (set ts s.count t) (set ps s.count p)) (record { count = s.count + 1; time = get_or t 1 (pos 0) }) ≡ step_row w (listing (fractal_store ts ps) s) t p
 unfolding store_if
 step-written w ts ps s t p e h =
     subst
-    (λ (b : Bool). listing (set ts s.count t) (set ps s.count p) (record { count = s.count + 1; time = get_or t 1 (pos 0) }) ≡ step_row b (listing ts ps s) t p)
-    (sym e) (step_in true (listing ts ps s) t p h)
+    (λ (b : Bool). listing (fractal_store (set ts s.count t) (set ps s.count p)) (record { count = s.count + 1; time = get_or t 1 (pos 0) }) ≡ step_row b (listing (fractal_store ts ps) s) t p)
+    (sym e) (step_in true (listing (fractal_store ts ps) s) t p h)
 
 pub step-counted : (w : Bool) (ts : List (List ℤ)) (ps : List (List Float)) (s : Listed) (t : List ℤ) (p : List Float) → w ≡ false → is_after (time_listed s) (get_or t 1 (pos 0)) ≡ true
-    → listing ts ps (record { count = s.count + 1; time = get_or t 1 (pos 0) }) ≡ step_row w (listing ts ps s) t p
+    → listing (fractal_store ts ps) (record { count = s.count + 1; time = get_or t 1 (pos 0) }) ≡ step_row w (listing (fractal_store ts ps) s) t p
 unfolding store_if
 step-counted w ts ps s t p e h =
-    subst (λ (b : Bool). listing ts ps (record { count = s.count + 1; time = get_or t 1 (pos 0) }) ≡ step_row b (listing ts ps s) t p) (sym e)
-    (step_in false (listing ts ps s) t p h)
+    subst (λ (b : Bool). listing (fractal_store ts ps) (record { count = s.count + 1; time = get_or t 1 (pos 0) }) ≡ step_row b (listing (fractal_store ts ps) s) t p) (sym e)
+    (step_in false (listing (fractal_store ts ps) s) t p h)
 
 -- the room that the code asks for where it writes
 pub step_room : (w : Bool) (ts : List (List ℤ)) (ps : List (List Float)) (s : Listed) (t : List ℤ) (p : List Float)
-    → (w ≡ true → RoomFractals (fractal_store ts ps) (step_row w (listing ts ps s) t p).listed.count) → w ≡ true → is_after (time_listed s) (get_or t 1 (pos 0)) ≡ true
+    → (w ≡ true → RoomFractals (fractal_store ts ps) (step_row w (listing (fractal_store ts ps) s) t p).listed.count) → w ≡ true → is_after (time_listed s) (get_or t 1 (pos 0)) ≡ true
     → (s.count < length ts) × (s.count < length ps)
 step_room w ts ps s t p r e h =
-    let q : (step_row w (listing ts ps s) t p).listed.count ≡ s.count + 1 = ap (λ (x : Listing). x.listed.count) (sym (step_in w (listing ts ps s) t p h)) in
+    let q : (step_row w (listing (fractal_store ts ps) s) t p).listed.count ≡ s.count + 1 = ap (λ (x : Listing). x.listed.count) (sym (step_in w (listing (fractal_store ts ps) s) t p h)) in
     let k = r e in
     let a = k.stamps in
     let b = k.prices in
     (omega arith, omega arith)
+
+-- ---- the same columns yet
+
+pub same_none : (a : FractalColumnsMut) → SameFractals a a
+same_none a = record { stamps = refl; prices = refl; stamps_room = refl; prices_room = refl }
+
+pub same_next : (a b c : FractalColumnsMut) → SameFractals a b → SameFractals b c → SameFractals a c
+same_next a b c h k =
+    record { stamps = k.stamps ∙ h.stamps; prices = k.prices ∙ h.prices; stamps_room = k.stamps_room ∙ h.stamps_room; prices_room = k.prices_room ∙ h.prices_room }
 
 -- ---- rows read back
 
@@ -216,6 +227,33 @@ can_step w x t p fs h =
           record { stamps = omega arith; prices = omega arith }),
       omega arith,
     )
+
+-- ---- one fractal after the other
+
+pub fx_asks : (w : Bool) (x : Listing) (f : Fractal) (fs : List Fractal) → CanList w x (f ∷ fs)
+    → (w ≡ true → RoomFractals x.store (step_row w x (stamp_row f) (price_row f)).listed.count) × (x.listed.count < 4294967296)
+unfolding step_all step_fx
+fx_asks w x f fs h =
+    let c = ap (λ (y : Listed). y.count) (listed_same w false x x (stamp_row f) (stamp_row f) (price_row f) (price_row f) refl refl) in
+    let m = count-all false (step_fx false x f) fs in
+    let k = h.small in (
+      λ q.
+          (let r = h.room q in
+          let u = r.stamps in
+          let v = r.prices in
+          record { stamps = omega arith; prices = omega arith }),
+      omega arith,
+    )
+
+pub fx_goes : (w : Bool) (x y e : Listing) (f : Fractal) (fs : List Fractal) → y ≡ step_row w x (stamp_row f) (price_row f) → step_all w x (f ∷ fs) ≡ e → CanList w x (f ∷ fs)
+    → (step_all w y fs ≡ e) × CanList w y fs
+unfolding step_all step_fx
+fx_goes w x y e f fs q g h =
+    (ap (λ (z : Listing). step_all w z fs) q ∙ g, subst (λ (z : Listing). CanList w z fs) (sym q) (can_next w x f fs h))
+
+pub fx_done : (w : Bool) (x e : Listing) (l : List Fractal) → l ≡ [] → step_all w x l ≡ e → x ≡ e
+unfolding step_all
+fx_done w x e l z g = sym (ap (step_all w x) z) ∙ g
 
 -- ---- the loop over the rows of a stroke
 

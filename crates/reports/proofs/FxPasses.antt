@@ -1,5 +1,5 @@
 -- The two passes of get_fx_list: the first counts what is listed and leaves the output as it was, the second writes it. Assumes nothing.
-use Prim.Native.Nat.{ℕ, ◌≤◌, ◌<◌}
+use Prim.Native.Nat.{ℕ, ◌≤◌, ◌<◌, min}
 use native.Mathlib.Omega.{arith}
 use mathlib.Core.Path.{◌≡◌, refl, ap, sym, ◌∙◌, subst}
 use mathlib.Core.Bool.{Bool, true, false, ◌&&◌, cond}
@@ -17,7 +17,6 @@ use Rattle.strokes.specs.Lent.{FractalStore}
 use Rattle.strokes.specs.Code.StrokeSteps.{Fewer, plain_bar, fractals_between}
 use Rattle.strokes.specs.FractalRows.{stamp_row, price_row, put_fractals}
 use Rattle.strokes.proofs.StoredStrokes.{length-take-most, fxs-few}
-use Rattle.arith.proofs.Tests.{and_false}
 use Rattle.reports.specs.declared.fx_list.Listed.{Listed}
 use Rattle.reports.specs.FractalList.{is_after, later_than}
 use Rattle.reports.specs.Code.FxListing.{last_time, time_listed, Listing, store_if, step_if, step_row, step_fx, step_all, CanList, stroke_rows}
@@ -26,7 +25,9 @@ use Rattle.reports.specs.Code.FxRows.{all_rows, CanGo}
 use Rattle.reports.proofs.FxLaws.{listed-all, all_append, can_front, can_back}
 use Rattle.reports.proofs.FxListed.{counted_are}
 use Rattle.reports.proofs.FxWritten.{written_are}
-use borrow.Author.Tests.{le-leb, lt-leb}
+use borrow.Author.Tests.{le-leb, leb-true}
+use Rattle.std.proofs.Common.{Ok, Err}
+use Rattle.bars.specs.declared.refusals.Question.TheVariants.{OutputRoom}
 
 -- ---- the strokes, then the unfinished bars
 
@@ -121,17 +122,18 @@ fits_yes : (d : FractalStore) (n : ℕ) → n ≤ length d.stamps → n ≤ leng
 unfolding fits_all
 fits_yes d n a b = λ i. le-leb n (length d.stamps) a i && le-leb n (length d.prices) b i
 
-fits_no_stamps : (d : FractalStore) (n : ℕ) → length d.stamps < n → fits_all d n ≡ false
-unfolding fits_all
-fits_no_stamps d n a = ap (λ (t : Bool). t && leb n (length d.prices)) (lt-leb n (length d.stamps) a)
+few_of : (x y : Bool) (n a b : ℕ) → leb n a ≡ x → leb n b ≡ y → min a b < n → (x && y) ≡ false
+few_of true true n a b p q h = let x = leb-true n a p in let y = leb-true n b q in let w : ⊥ = omega arith in absurd w
+few_of true false n a b p q h = refl
+few_of false y n a b p q h = refl
 
-fits_no_prices : (d : FractalStore) (n : ℕ) → length d.prices < n → fits_all d n ≡ false
+fits_few : (d : FractalStore) (n : ℕ) → min (length d.stamps) (length d.prices) < n → fits_all d n ≡ false
 unfolding fits_all
-fits_no_prices d n a = ap (λ (t : Bool). leb n (length d.stamps) && t) (lt-leb n (length d.prices) a) ∙ and_false (leb n (length d.stamps))
+fits_few d n h = few_of _ _ n (length d.stamps) (length d.prices) refl refl h
 
 -- ---- what list_all returns
 
-done_no : (l : List Fractal) (d d' : FractalStore) → fits_all d (length l) ≡ false → d' ≡ d → FxDone true l d d' (record { failed = 14; count = 0 })
+done_no : (l : List Fractal) (d d' : FractalStore) → fits_all d (length l) ≡ false → d' ≡ d → FxDone true l d d' (Err OutputRoom)
 unfolding listed_by output_by
 done_no l d d' e q =
     record {
@@ -139,11 +141,11 @@ done_no l d d' e q =
       output = q ∙ ap (λ (b : Bool). output_by (true && b) d l) (sym e);
     }
 
-done_yes : (l : List Fractal) (d d' : FractalStore) (n : ℕ) → fits_all d (length l) ≡ true → n ≡ length l → d' ≡ put_fractals d 0 l → FxDone true l d d' (record { failed = 0; count = n })
+done_yes : (l : List Fractal) (d d' : FractalStore) (n : ℕ) → fits_all d (length l) ≡ true → n ≡ length l → d' ≡ put_fractals d 0 l → FxDone true l d d' (Ok n)
 unfolding listed_by output_by
 done_yes l d d' n e k q =
     record {
-      answer = (λ i. record { failed = 0; count = k i }) ∙ ap (λ (b : Bool). listed_by true b (length l)) (sym e);
+      answer = ap Ok k ∙ ap (λ (b : Bool). listed_by true b (length l)) (sym e);
       output = q ∙ ap (λ (b : Bool). output_by (true && b) d l) (sym e);
     }
 
@@ -165,17 +167,11 @@ module _ (l : List Fractal) (d d1 : FractalStore) (s r : Listed) (z : s.count �
   d-is : d1 ≡ d
   d-is = ap (λ (y : Listing). y.store) e ∙ kept-all (record { store = d; listed = s }) l
 
-  pub few-stamps : length d1.stamps < r.count → FxDone true (later_than none l) d d1 (record { failed = 14; count = 0 })
-  few-stamps h =
-      let a = ap (λ (y : FractalStore). length y.stamps) d-is in
+  pub few_places : min (length d1.stamps) (length d1.prices) < r.count → FxDone true (later_than none l) d d1 (Err OutputRoom)
+  few_places h =
+      let a = ap (λ (y : FractalStore). min (length y.stamps) (length y.prices)) d-is in
       let b = n-is in
-      done_no (later_than none l) d d1 (fits_no_stamps d (length (later_than none l)) (omega arith)) d-is
-
-  pub few-prices : length d1.prices < r.count → FxDone true (later_than none l) d d1 (record { failed = 14; count = 0 })
-  few-prices h =
-      let a = ap (λ (y : FractalStore). length y.prices) d-is in
-      let b = n-is in
-      done_no (later_than none l) d d1 (fits_no_prices d (length (later_than none l)) (omega arith)) d-is
+      done_no (later_than none l) d d1 (fits_few d (length (later_than none l)) (omega arith)) d-is
 
   -- the second pass may begin
   second_can : length l < 4294967296 → r.count ≤ length d1.stamps → r.count ≤ length d1.prices → CanList true (record { store = d1; listed = s }) l
@@ -185,7 +181,7 @@ module _ (l : List Fractal) (d d1 : FractalStore) (s r : Listed) (z : s.count �
       record { room = λ t. record { stamps = omega arith; prices = omega arith }; small = omega arith }
 
   pub second_done : length l < 4294967296 → r.count ≤ length d1.stamps → r.count ≤ length d1.prices → (d2 : FractalStore) (r2 : Listed)
-      → record { store = d2; listed = r2 } ≡ step_all true (record { store = d1; listed = s }) l → FxDone true (later_than none l) d d2 (record { failed = 0; count = r2.count })
+      → record { store = d2; listed = r2 } ≡ step_all true (record { store = d1; listed = s }) l → FxDone true (later_than none l) d d2 (Ok r2.count)
   second_done k a b d2 r2 q =
       let c = second_can k a b in
       let m = n-is in
@@ -201,7 +197,7 @@ module _ (st : Stand) (u : RawStore) (f : FractalStore) (h : CanGo st u f) (d d1
   second-asked = second_can (all_rows st u f) d d1 s r z e (rows_few st u f h) a b
 
   pub all_done : (d2 : FractalStore) (r2 : Listed) → record { store = d2; listed = r2 } ≡ step_all true (record { store = d1; listed = s }) (all_rows st u f)
-      → FxDone true (later_than none (all_rows st u f)) d d2 (record { failed = 0; count = r2.count })
+      → FxDone true (later_than none (all_rows st u f)) d d2 (Ok r2.count)
   all_done d2 r2 q = second_done (all_rows st u f) d d1 s r z e (rows_few st u f h) a b d2 r2 q
 
 -- the same of the unfinished bars alone, of which there are n
@@ -217,5 +213,5 @@ module _ (u : RawStore) (n : ℕ) (h : n ≤ 65536) where
     windows_second = second_can (fractals_between u 0 n) d d1 s r z e few a b
 
     pub windows_done : (d2 : FractalStore) (r2 : Listed) → record { store = d2; listed = r2 } ≡ step_all true (record { store = d1; listed = s }) (fractals_between u 0 n)
-        → FxDone true (later_than none (fractals_between u 0 n)) d d2 (record { failed = 0; count = r2.count })
+        → FxDone true (later_than none (fractals_between u 0 n)) d d2 (Ok r2.count)
     windows_done d2 r2 q = second_done (fractals_between u 0 n) d d1 s r z e few a b d2 r2 q

@@ -25,11 +25,14 @@ use Rattle.sound.specs.StandSound.{IsSound}
 use Rattle.question4.specs.Question4.{question4}
 use Rattle.sound.proofs.SoundFacts.{Facts, facts}
 use Rattle.question4.proofs.Question4Passed.{is-sound}
-use Rattle.reports.specs.declared.fx_answer.FxListAnswer.{FxListAnswer}
+use Rattle.std.proofs.Common.{Result, Err, IsErrAnd}
+use Rattle.bars.specs.declared.refusals.Question.{Question}
 use Rattle.reports.specs.FractalList.{is_after, list_if, later_than, stroke_fxs, get_fx_list}
 use Rattle.reports.specs.Code.FxListing.{stroke_rows}
 use Rattle.reports.specs.FxAnswers.{fits_all, listed_by, output_by, FxDone, fx_list_of}
 use Rattle.reports.specs.Code.FxRows.{all_rows, CanGo}
+use Rattle.reports.specs.FirstQuestions.{if_sound}
+use Rattle.reports.proofs.FirstLaws.{unsound, sound_no}
 use Rattle.reports.proofs.FxListed.{strokes_are}
 
 -- ---- without elements
@@ -66,7 +69,7 @@ out_bare true d l = put_bare d 0 l
 out_bare false d l = refl
 
 -- lists that are alike without elements have the same answer and the same output
-pub same_done : (t : Bool) (l l' : List Fractal) (d d' : FractalStore) (r : FxListAnswer) → map bare_fractal l ≡ map bare_fractal l' → FxDone t l d d' r → FxDone t l' d d' r
+pub same_done : (t : Bool) (l l' : List Fractal) (d d' : FractalStore) (r : Result ℕ Question) → map bare_fractal l ≡ map bare_fractal l' → FxDone t l d d' r → FxDone t l' d d' r
 same_done t l l' d d' r e h =
     let n : length l ≡ length l' = sym (length-map l bare_fractal) ∙ ap length e ∙ length-map l' bare_fractal in
     record {
@@ -134,19 +137,19 @@ module _ (s : Stand) (m : Stores) (lb : length s.bars ≡ 65) (lf : length s.fra
       ∙ ap (later_than none) rows_alike
       ∙ sym (later_bare none (stroke_fxs (state_of s m).strokes ++ check_fxs (state_of s m).unfinished))
 
-  sound_done : (d d' : FractalStore) (r : FxListAnswer) → FxDone true (later_than none (all_rows s (raw_part m.unfinished) m.fractals)) d d' r → FxDone true (fx_list_of (state_of s m)) d d' r
+  sound_done : (d d' : FractalStore) (r : Result ℕ Question) → FxDone true (later_than none (all_rows s (raw_part m.unfinished) m.fractals)) d d' r → FxDone true (fx_list_of (state_of s m)) d d' r
   sound_done d d' r k = same_done true (later_than none (all_rows s (raw_part m.unfinished) m.fractals)) (fx_list_of (state_of s m)) d d' r list_alike k
 
 -- ---- the answers, by question 4
 
-pub fx_no : (t : Bool) (l : List Fractal) (d : FractalStore) → t ≡ false → FxDone t l d d (record { failed = 4; count = 0 })
+pub fx_no : (t : Bool) (l : List Fractal) (d : FractalStore) (e : Question) (r : Result ℕ Question) → IsErrAnd r (λ y. y ≡ e) → Err e ≡ if_sound t (tt {0}) → FxDone t l d d r
 unfolding listed_by output_by
-fx_no t l d e =
+fx_no t l d e r h g =
     record {
-      answer = ap (λ (t : Bool). listed_by t (fits_all d (length l)) (length l)) (sym e);
-      output = ap (λ (t : Bool). output_by (t && fits_all d (length l)) d l) (sym e);
+      answer = sound_no t tt e r (λ q. listed_by q (fits_all d (length l)) (length l)) refl h g;
+      output = ap (λ (q : Bool). output_by (q && fits_all d (length l)) d l) (sym (unsound t tt e g).0);
     }
 
-pub fx_yes : (s : Stand) (m : Stores) → length s.bars ≡ 65 → length s.fractals ≡ 65 → question4 s m ≡ true → (d d' : FractalStore) (r : FxListAnswer)
+pub fx_yes : (s : Stand) (m : Stores) → length s.bars ≡ 65 → length s.fractals ≡ 65 → question4 s m ≡ true → (d d' : FractalStore) (r : Result ℕ Question)
     → FxDone true (later_than none (all_rows s (raw_part m.unfinished) m.fractals)) d d' r → FxDone (question4 s m) (fx_list_of (state_of s m)) d d' r
 fx_yes s m lb lf e d d' r k = subst (λ (t : Bool). FxDone t (fx_list_of (state_of s m)) d d' r) (sym e) (sound_done s m lb lf (is-sound s m e) d d' r k)

@@ -1,16 +1,14 @@
 -- What the proofs of src/asked_raw_bars.rt cite: bars written one by one stand one behind the other, elements counted in turn, and the questions one by one.
 -- Assumes nothing.
-use Prim.Native.Nat.{ℕ, suc, ◌+◌, ◌-◌, ◌≤◌, ◌<◌}
+use Prim.Native.Nat.{ℕ, suc, min, ◌+◌, ◌-◌, ◌≤◌, ◌<◌}
 use native.Mathlib.Omega.{arith}
 use mathlib.Core.Path.{◌≡◌, refl, ap, sym, ◌∙◌, subst}
 use mathlib.Core.Bool.{Bool, true, false, ◌&&◌}
 use mathlib.Core.List.{List, [], ◌∷◌, ◌++◌, map, foldl, append-nil}
-use mathlib.Core.Option.{none}
 use lib.Dec.{T, leb}
 use lib.IntN.{ℤ}
 use lib.ListN.{length, take, drop, get_or, set, length-take, length-drop, length-map, length-append, length-set, take-append-drop, drop_of_length-le}
 use lib.Seq.{take-suc-set, drop-set-lt, drop-cons, append_snoc}
-use lib.Ieee.{Float}
 use Rattle.bars.specs.declared.Bar.{Bar}
 use Rattle.bars.specs.Lists.{join}
 use Rattle.bars.specs.Merging.{at_times}
@@ -25,16 +23,22 @@ use Rattle.strokes.specs.FractalRows.{pasted}
 use Rattle.question4.specs.Question4.{question4}
 use Rattle.sound.specs.Code.SoundStand.{is_time}
 use Rattle.named.specs.declared.stroke_rows.StrokeRows.{StrokeRows}
-use Rattle.reports.specs.declared.asked_raw_bars.RawBarsAnswer.{RawBarsAnswer}
+use Rattle.std.proofs.Common.{Result, Ok, Err, IsErrAnd, inl, inr}
+use Rattle.bars.specs.declared.refusals.Question.{Question}
+use Rattle.bars.specs.declared.refusals.Question.TheVariants.{OutputRoom}
+use Rattle.stores.specs.declared.lent_columns.RawColumnsMut.{RawColumnsMut}
+use Rattle.stores.specs.Columns.{raw_of, SameRaw}
+use Rattle.reports.specs.FirstQuestions.{asked_rows}
+use Rattle.reports.proofs.FirstLaws.{handed_up, rows_by}
 use Rattle.reports.specs.Measures.{get_raw_bars}
 use Rattle.reports.specs.Code.ElementPrices.{elements_in}
 use Rattle.named.specs.Code.NamedRows.{stroke_in, RowsStand, cut, inner_rows}
 use Rattle.named.specs.ReportQuestions.{nth, question14}
-use Rattle.reports.specs.InnerRawBars.{put_bars, RawBarsListed, refused_by, places_for, list_if, list_bars, raw_bars_if, raw_bars_at}
-use Rattle.reports.specs.Code.InnerRawSteps.{CanFind, named_bar, Filling, filling, put_named, CanList}
+use Rattle.reports.specs.InnerRawBars.{put_bars, RawBarsListed, listed, places_for, list_if, list_bars, raw_bars_if, raw_bars_at}
+use Rattle.reports.specs.Code.InnerRawSteps.{CanFind, named_bar, Filling, put_named, CanList}
 use Rattle.reports.proofs.MeasureLaws.{inner-elements, at-times, named-place}
 use Rattle.reports.proofs.StrokeColumns.{Lends, elements-named, can_measure, long, two, bars_read_lem, raw-named}
-use borrow.Author.Tests.{le-leb, lt-leb}
+use borrow.Author.Tests.{le-leb, leb-true}
 
 -- ---- bars written one by one
 
@@ -113,9 +117,6 @@ count-end cs es i sum all q h k =
     let e : length (join (drop i (zip_with take cs es))) ≡ 0 = ap (λ (x : List (List ℤ)). length (join x)) d in
     omega (arith, e, k)
 
-pub in_use_lem : (row : List ℤ) (count : ℕ) → length row ≡ 101 → (count < 101 → count ≡ length (take count row)) × (101 ≤ count → 101 ≡ length (take count row))
-in_use_lem row count e = (λ h. omega (arith, length-take count row), λ h. omega (arith, length-take count row))
-
 -- ---- a bar that is looked up and written
 
 -- it stands in every column
@@ -124,22 +125,30 @@ find-room s n t i h g e =
     let p = named-place (take n s.times) t h.rises g in
     room-less s n (i + 1) (omega (arith, p, e, length-take n s.times)) h.room
 
-pub set_lengths : (ts is : List ℤ) (ps : List (List Float)) (d : RawStore) (k : ℕ) (b : Bar) → raw_store ts is ps ≡ set_bar d k b
-    → (length ts ≡ length d.times) × (length is ≡ length d.ids) × (length ps ≡ length d.prices)
-unfolding set_bar
-set_lengths ts is ps d k b e = (
-  ap (λ (x : RawStore). length x.times) e ∙ length-set d.times k b.time,
-  ap (λ (x : RawStore). length x.ids) e ∙ length-set d.ids k b.id,
-  ap (λ (x : RawStore). length x.prices) e ∙ length-set d.prices k (row_of b),
-)
+-- the same columns yet
+pub same_none : (a : RawColumnsMut) → SameRaw a a
+same_none a = record { times = refl; ids = refl; prices = refl; times_room = refl; ids_room = refl; prices_room = refl }
 
--- the place k = at + j is one of those that the output d has for l, of which j have been written
-pub put_room : (d : RawStore) (ts is : List ℤ) (ps : List (List Float)) (at k j : ℕ) (l : List ℤ) → RoomRaw d (at + length l)
-    → length ts ≡ length d.times → length is ≡ length d.ids → length ps ≡ length d.prices → k ≡ at + j → j < length l → RoomRaw (raw_store ts is ps) (k + 1)
-put_room d ts is ps at k j l h p q r e g =
-    let x = h.times in
-    let y = h.ids in
-    let z = h.prices in
+pub same_next : (a b c : RawColumnsMut) → SameRaw a b → SameRaw b c → SameRaw a c
+same_next a b c h k =
+    record {
+      times = k.times ∙ h.times;
+      ids = k.ids ∙ h.ids;
+      prices = k.prices ∙ h.prices;
+      times_room = k.times_room ∙ h.times_room;
+      ids_room = k.ids_room ∙ h.ids_room;
+      prices_room = k.prices_room ∙ h.prices_room;
+    }
+
+-- so many places as there were
+pub room_same : (a b : RawColumnsMut) (m n : ℕ) → SameRaw a b → RoomRaw (raw_of a) m → n ≤ m → RoomRaw (raw_of b) n
+room_same a b m n h r k =
+    let x = r.times in
+    let y = r.ids in
+    let z = r.prices in
+    let t = h.times_room in
+    let i = h.ids_room in
+    let p = h.prices_room in
     record { times = omega arith; ids = omega arith; prices = omega arith }
 
 pub put_is : (s d e : RawStore) (k n i : ℕ) (t : ℤ) (b : Bar) → e ≡ set_bar d k b → b ≡ bar_at s i → i ≡ place_of t (take n s.times) → e ≡ set_bar d k (named_bar s n t)
@@ -147,44 +156,19 @@ put_is s d e k n i t b p q r = p ∙ ap (set_bar d k) (q ∙ ap (bar_at s) r)
 
 -- ---- a row after the other
 
--- what a row's bars leave of the columns, and where the next one goes
-pub filled_lengths : (s : RawStore) (n : ℕ) (w : Filling) (l : List ℤ) → let r = foldl (put_named s n) w l in
-    (length r.columns.times ≡ length w.columns.times) × (length r.columns.ids ≡ length w.columns.ids) × (length r.columns.prices ≡ length w.columns.prices) × (r.next ≡ w.next + length l)
-unfolding set_bar
-filled_lengths s n w [] = (refl, refl, refl, omega arith)
-filled_lengths s n w (t ∷ l) =
-    let b = named_bar s n t in
-    let f = filled_lengths s n (put_named s n w t) l in (
-      f.0 ∙ length-set w.columns.times w.next b.time,
-      f.1 ∙ length-set w.columns.ids w.next b.id,
-      f.2 ∙ length-set w.columns.prices w.next (row_of b),
-      omega (arith, f.3),
-    )
-
-module _ (s : RawStore) (n : ℕ) (ts is : List ℤ) (ps : List (List Float)) (k : ℕ) (w : Filling) (l : List ℤ) (e : filling ts is ps k ≡ foldl (put_named s n) w l) where
-  pub row_lengths : (length ts ≡ length w.columns.times) × (length is ≡ length w.columns.ids) × (length ps ≡ length w.columns.prices)
-  row_lengths =
-      let f = filled_lengths s n w l in
-      (ap (λ (x : Filling). length x.columns.times) e ∙ f.0, ap (λ (x : Filling). length x.columns.ids) e ∙ f.1, ap (λ (x : Filling). length x.columns.prices) e ∙ f.2)
-
-  pub row_next : k ≡ w.next + length l
-  row_next = ap (λ (x : Filling). x.next) e ∙ (filled_lengths s n w l).3
+-- where the next one goes
+pub next_place : (s : RawStore) (n : ℕ) (w : Filling) (l : List ℤ) → (foldl (put_named s n) w l).next ≡ w.next + length l
+next_place s n w [] = omega arith
+next_place s n w (t ∷ l) = omega (arith, next_place s n (put_named s n w t) l)
 
 module _ (cs : List ℕ) (es : List (List ℤ)) (i : ℕ) (q : length cs ≡ length es) (h : i < length cs) where
-  -- the output d has room for all elements, and so for those of row i
-  pub rows-room : (d : RawStore) (ts is : List ℤ) (ps : List (List Float)) (k : ℕ) → RoomRaw d (length (elements_in cs es))
-      → length ts ≡ length d.times → length is ≡ length d.ids → length ps ≡ length d.prices
-      → k + length (join (drop i (zip_with take cs es))) ≡ length (join (zip_with take cs es)) → RoomRaw (raw_store ts is ps) (k + length (take (get_or cs i 0) (get_or es i [])))
-  rows-room d ts is ps k r a b c e =
-      let x = r.times in
-      let y = r.ids in
-      let z = r.prices in
-      let g = row-length cs es i q h in
-      record { times = omega arith; ids = omega arith; prices = omega arith }
-
   pub rows_next : (k r all : ℕ) → r ≡ k + length (take (get_or cs i 0) (get_or es i [])) → k + length (join (drop i (zip_with take cs es))) ≡ all
       → r + length (join (drop (i + 1) (zip_with take cs es))) ≡ all
   rows_next k r all e g = omega (arith, row-length cs es i q h, e, g)
+
+  -- those of row i are some of all
+  pub row_within : (k all : ℕ) → k + length (join (drop i (zip_with take cs es))) ≡ all → k + length (take (get_or cs i 0) (get_or es i [])) ≤ all
+  row_within k all g = omega (arith, row-length cs es i q h, g)
 
 -- all rows are written
 pub rows_put : (s : RawStore) (n : ℕ) (d : RawStore) (w : Filling) (l : List ℤ) → RoomRaw d (length l) → w ≡ foldl (put_named s n) (record { columns = d; next = 0 }) l
@@ -194,25 +178,17 @@ rows_put s n d w l r e =
 
 -- ---- question 14
 
-and_no : (a b : Bool) → b ≡ false → (a && b) ≡ false
-and_no true b e = e
-and_no false b e = refl
+-- one of three has too few
+few_of : (x y z : Bool) (n a b c : ℕ) → leb n a ≡ x → leb n b ≡ y → leb n c ≡ z → min (min a b) c < n → (x && y && z) ≡ false
+few_of true true true n a b c p q r h = let x = leb-true n a p in let y = leb-true n b q in let z = leb-true n c r in let w : ⊥ = omega arith in absurd w
+few_of true true false n a b c p q r h = refl
+few_of true false z n a b c p q r h = refl
+few_of false y z n a b c p q r h = refl
 
 module _ (bs : List Bar) (d : RawStore) where
-  pub places_no_times : length d.times < length bs → places_for bs d ≡ false
+  pub places_few : min (min (length d.times) (length d.ids)) (length d.prices) < length bs → places_for bs d ≡ false
   unfolding places_for question14
-  places_no_times h = ap (λ (t : Bool). t && leb (length bs) (length d.ids) && leb (length bs) (length d.prices)) (lt-leb (length bs) (length d.times) h)
-
-  pub places_no_ids : length d.ids < length bs → places_for bs d ≡ false
-  unfolding places_for question14
-  places_no_ids h =
-      let x = leb (length bs) (length d.times) in
-      let z = leb (length bs) (length d.prices) in
-      ap (λ (t : Bool). (x && t) && z) (lt-leb (length bs) (length d.ids) h) ∙ ap (λ (t : Bool). t && z) (and_no x false refl)
-
-  pub places_no_prices : length d.prices < length bs → places_for bs d ≡ false
-  unfolding places_for question14
-  places_no_prices h = and_no (leb (length bs) (length d.times) && leb (length bs) (length d.ids)) (leb (length bs) (length d.prices)) (lt-leb (length bs) (length d.prices) h)
+  places_few h = few_of _ _ _ (length bs) (length d.times) (length d.ids) (length d.prices) refl refl refl h
 
   pub places_yes : RoomRaw d (length bs) → places_for bs d ≡ true
   unfolding places_for question14
@@ -226,27 +202,18 @@ module _ (s : RawStore) (n : ℕ) (l : List ℤ) (d : RawStore) (m : ℕ) (c : m
   many : length bs ≡ m
   many = length-map l (named_bar s n) ∙ sym c
 
-  refused-is : (r : RawBarsAnswer) → r ≡ refused_by 14 → places_for bs d ≡ false → record { answer = r; columns = d } ≡ list_bars bs d
+  pub list_few : min (min (length d.times) (length d.ids)) (length d.prices) < m → listed (Err OutputRoom) d ≡ list_bars bs d
   unfolding list_bars list_if
-  refused-is r e p = (λ i. record { answer = e i; columns = d }) ∙ ap (λ (t : Bool). list_if t bs d) (sym p)
-
-  pub list_no_times : (r : RawBarsAnswer) → r ≡ refused_by 14 → length d.times < m → record { answer = r; columns = d } ≡ list_bars bs d
-  list_no_times r e h = refused-is r e (places_no_times bs d (omega (arith, many)))
-
-  pub list_no_ids : (r : RawBarsAnswer) → r ≡ refused_by 14 → length d.ids < m → record { answer = r; columns = d } ≡ list_bars bs d
-  list_no_ids r e h = refused-is r e (places_no_ids bs d (omega (arith, many)))
-
-  pub list_no_prices : (r : RawBarsAnswer) → r ≡ refused_by 14 → length d.prices < m → record { answer = r; columns = d } ≡ list_bars bs d
-  list_no_prices r e h = refused-is r e (places_no_prices bs d (omega (arith, many)))
+  list_few h = ap (λ (t : Bool). list_if t bs d) (sym (places_few bs d (omega (arith, many))))
 
   -- there is room for all
-  pub list_room : m ≤ length d.times → m ≤ length d.ids → m ≤ length d.prices → RoomRaw d (length l)
-  list_room x y z = record { times = omega (arith, c); ids = omega (arith, c); prices = omega (arith, c) }
+  pub list_room : m ≤ min (min (length d.times) (length d.ids)) (length d.prices) → RoomRaw d (length l)
+  list_room h = record { times = omega (arith, c); ids = omega (arith, c); prices = omega (arith, c) }
 
-  pub list_all : (o : RawStore) → o ≡ put_bars d 0 bs → RoomRaw d (length l) → record { answer = record { failed = 0; count = m }; columns = o } ≡ list_bars bs d
+  pub list_all : (o : RawStore) → o ≡ put_bars d 0 bs → RoomRaw d (length l) → listed (Ok m) o ≡ list_bars bs d
   unfolding list_bars list_if
   list_all o e h =
-      (λ i. record { answer = record { failed = 0; count = sym many i }; columns = e i })
+      (λ i. listed (Ok (sym many i)) (e i))
       ∙ ap (λ (t : Bool). list_if t bs d) (sym (places_yes bs d (room-less d (length l) (length bs) (omega (arith, many, c)) h)))
 
 pub cut_small : {A : Type 0} (a z : ℕ) (l : List A) (n : ℕ) → length l ≤ n → length (cut a z l) ≤ n
@@ -289,13 +256,10 @@ module _ (s : Stand) (m : Stores) (i : ℕ) (r : StrokeRows) (h : Lends s m i r)
 -- ---- question by question
 
 module _ (s : Stand) (m : Stores) (i : ℕ) (d : RawStore) where
-  pub bars_unsound : (r : RawBarsAnswer) → r ≡ refused_by 4 → question4 s m ≡ false → record { answer = r; columns = d } ≡ raw_bars_at s m i d
+  pub bars_refused : (e : Question) (r : Result ℕ Question) → length s.bars ≡ 65 → length s.fractals ≡ 65 → IsErrAnd r (λ y. y ≡ e) → Err e ≡ asked_rows s m i → listed r d ≡ raw_bars_at s m i d
   unfolding raw_bars_at raw_bars_if
-  bars_unsound r e q = (λ j. record { answer = e j; columns = d }) ∙ ap (λ (t : Bool). raw_bars_if t (state_of s m).raw (nth (state_of s m).strokes i) d) (sym q)
-
-  pub bars_missing : (r : RawBarsAnswer) → r ≡ refused_by 13 → question4 s m ≡ true → nth (state_of s m).strokes i ≡ none → record { answer = r; columns = d } ≡ raw_bars_at s m i d
-  unfolding raw_bars_at raw_bars_if
-  bars_missing r e q n = (λ j. record { answer = e j; columns = d }) ∙ (λ j. raw_bars_if (sym q j) (state_of s m).raw (sym n j) d)
+  bars_refused e r lb lf h g =
+      elim (rows_by s m i e lb lf g) [ inl w ↦ (λ j. listed ((handed_up r e h ∙ ap Err w.1) j) d) ∙ ap (λ (t : Bool). raw_bars_if t (state_of s m).raw (nth (state_of s m).strokes i) d) (sym w.0) | inr w ↦ (λ j. listed ((handed_up r e h ∙ ap Err w.2) j) d) ∙ (λ j. raw_bars_if (sym w.0 j) (state_of s m).raw (sym w.1 j) d) ]
 
   pub bars_given : (o : RawBarsListed) (w : StrokeRows) → Lends s m i w → question4 s m ≡ true
       → o ≡ list_bars (map (named_bar m.raw s.raw) (elements_in (inner_rows w m.strokes.counts) (inner_rows w m.strokes.elements))) d → o ≡ raw_bars_at s m i d

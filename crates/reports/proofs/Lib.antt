@@ -1,3 +1,4 @@
+pub mod FirstLaws
 pub mod UnfinishedGiven
 pub mod ReachedUbi
 pub mod MeasureLaws
@@ -9,11 +10,11 @@ pub mod UbiFacts
 pub mod StrokeColumns
 pub mod StrengthLaws
 pub mod NamedAnswers
-pub mod SeekLaws
 pub mod FxLaws
 pub mod FxListed
 pub mod FxWritten
-pub mod FxWindowLaws
+pub mod WalkLaws
+pub mod UnfinishedAt
 pub mod FxPasses
 pub mod FxSame
 pub mod UnfinishedFxs

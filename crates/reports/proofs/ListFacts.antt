@@ -16,6 +16,12 @@ use Rattle.strokes.proofs.StoredStrokes.{last-is}
 use Rattle.sound.specs.StandSound.{IsSound}
 use Rattle.question4.specs.Question4.{question4}
 use Rattle.sound.proofs.SoundFacts.{Facts, facts}
+use Rattle.std.proofs.Common.{Result, Ok, Err, IsErrAnd}
+use Rattle.bars.specs.declared.refusals.Question.{Question}
+use Rattle.bars.specs.declared.refusals.Question.TheVariants.{Sound}
+use Rattle.machine.specs.Stand.{State}
+use Rattle.reports.specs.FirstQuestions.{if_sound}
+use Rattle.reports.proofs.FirstLaws.{ok_same, err_ok, sound_no}
 use Rattle.question4.proofs.Question4Passed.{is-sound}
 use Rattle.reports.specs.FractalList.{get_finished_bis, last_bi_extend}
 use Rattle.reports.specs.ListAnswers.{finished_by, finished_answer, extend_by, extend_answer}
@@ -75,25 +81,29 @@ module _ (s : Stand) (m : Stores) (lb : length s.bars ≡ 65) (lf : length s.fra
 
 -- ---- the answers, by question 4
 
-pub finished_no : (s : Stand) (m : Stores) → question4 s m ≡ false
-    → (record { failed = 4; count = 0 } ≡ finished_answer s m) × (◌≡◌ {A = ℕ} 4 0 → run_of (state_of s m).strokes 0 0 ≡ get_finished_bis (state_of s m).strokes (state_of s m).unfinished)
+-- where it answers, the strokes of that run are the finished ones
+run_by : (q : Bool) (t : State) (n : ℕ) → finished_by q t ≡ Ok n → run_of t.strokes 0 n ≡ get_finished_bis t.strokes t.unfinished
+unfolding finished_by
+run_by true t n h = ap (λ (k : ℕ). run_of t.strokes 0 k) (sym (ok_same (length (get_finished_bis t.strokes t.unfinished)) n h)) ∙ finished-run t.strokes t.unfinished
+run_by false t n h = err_ok Sound n h
+
+pub finished_runs : (s : Stand) (m : Stores) (r : Result ℕ Question) → r ≡ finished_answer s m
+    → (n : ℕ) → r ≡ Ok n → run_of (state_of s m).strokes 0 n ≡ get_finished_bis (state_of s m).strokes (state_of s m).unfinished
+unfolding finished_answer
+finished_runs s m r e n h = run_by (question4 s m) (state_of s m) n (sym e ∙ h)
+
+pub finished_no : (s : Stand) (m : Stores) (e : Question) (r : Result ℕ Question) → IsErrAnd r (λ y. y ≡ e) → Err e ≡ if_sound (question4 s m) (tt {0}) → r ≡ finished_answer s m
 unfolding finished_answer finished_by
-finished_no s m e = (ap (λ (t : Bool). finished_by t (state_of s m)) (sym e), λ q. (let z : ⊥ = omega (arith, q) in absurd z))
+finished_no s m e r h g = sound_no (question4 s m) tt e r (λ q. finished_by q (state_of s m)) refl h g
 
-pub finished_yes : (s : Stand) (m : Stores) → length s.bars ≡ 65 → length s.fractals ≡ 65 → question4 s m ≡ true → (n : ℕ) → n ≡ finished_count s.strokes s.unfinished
-    → (record { failed = 0; count = n } ≡ finished_answer s m) × (◌≡◌ {A = ℕ} 0 0 → run_of (state_of s m).strokes 0 n ≡ get_finished_bis (state_of s m).strokes (state_of s m).unfinished)
+pub finished_yes : (s : Stand) (m : Stores) → length s.bars ≡ 65 → length s.fractals ≡ 65 → question4 s m ≡ true → (n : ℕ) → n ≡ finished_count s.strokes s.unfinished → Ok n ≡ finished_answer s m
 unfolding finished_answer finished_by
-finished_yes s m lb lf e n q =
-    let w = finished_are s m lb lf (is-sound s m e) n q in (
-      (λ i. record { failed = 0; count = w i }) ∙ ap (λ (t : Bool). finished_by t (state_of s m)) (sym e),
-      λ z. ap (λ (k : ℕ). run_of (state_of s m).strokes 0 k) w ∙ finished-run (state_of s m).strokes (state_of s m).unfinished,
-    )
+finished_yes s m lb lf e n q = ap Ok (finished_are s m lb lf (is-sound s m e) n q) ∙ ap (λ (t : Bool). finished_by t (state_of s m)) (sym e)
 
-pub extend_no : (s : Stand) (m : Stores) → question4 s m ≡ false → record { failed = 4; «extends» = false } ≡ extend_answer s m
+pub extend_no : (s : Stand) (m : Stores) (e : Question) (r : Result Bool Question) → IsErrAnd r (λ y. y ≡ e) → Err e ≡ if_sound (question4 s m) (tt {0}) → r ≡ extend_answer s m
 unfolding extend_answer extend_by
-extend_no s m e = ap (λ (t : Bool). extend_by t (state_of s m)) (sym e)
+extend_no s m e r h g = sound_no (question4 s m) tt e r (λ q. extend_by q (state_of s m)) refl h g
 
-pub extend_yes : (s : Stand) (m : Stores) (b : Bool) → question4 s m ≡ true → b ≡ last_bi_extend (state_of s m).strokes (state_of s m).unfinished
-    → record { failed = 0; «extends» = b } ≡ extend_answer s m
+pub extend_yes : (s : Stand) (m : Stores) (b : Bool) → question4 s m ≡ true → b ≡ last_bi_extend (state_of s m).strokes (state_of s m).unfinished → Ok b ≡ extend_answer s m
 unfolding extend_answer extend_by
-extend_yes s m b e q = (λ i. record { failed = 0; «extends» = q i }) ∙ ap (λ (t : Bool). extend_by t (state_of s m)) (sym e)
+extend_yes s m b e q = ap Ok q ∙ ap (λ (t : Bool). extend_by t (state_of s m)) (sym e)

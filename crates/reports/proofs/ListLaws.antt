@@ -1,13 +1,13 @@
 -- Laws of the finished strokes and of the bars beyond the last stroke. Assumes nothing.
-use Prim.Native.Nat.{ℕ, suc, ◌+◌, ◌-◌, ◌≤◌, ◌<◌}
-use native.Mathlib.Numerals.{add-one}
+use Prim.Native.Nat.{ℕ, ◌-◌, ◌≤◌, ◌<◌}
 use native.Mathlib.Omega.{arith}
 use mathlib.Core.Path.{◌≡◌, refl, ap, sym, ◌∙◌}
 use mathlib.Core.Bool.{Bool, true, false, cond}
 use mathlib.Core.List.{List, [], ◌∷◌, map}
+use Rattle.std.specs.List.{fold}
 use mathlib.Core.Option.{Option, none, some}
-use lib.ListN.{length, take, drop, get_or, length-take, drop_of_length-le}
-use lib.Seq.{take-length, length-take-le, drop-cons, get_or-take}
+use lib.ListN.{length, take, get_or}
+use lib.Seq.{take-length}
 use lib.Dec.{ltb}
 use lib.Ieee.{Float, nan, lt}
 use borrow.Author.Tests.{lt-ltb, le-ltb}
@@ -59,22 +59,11 @@ count_less k n r h e = e ∙ ap (λ (t : Bool). cond t (k - 1) k) (sym (lt-ltb n
 
 -- ---- the greatest high and the least low
 
--- one row more, of the first n
-pub fold_row : (f : Float → Float → Float) (g : List Float → Float) (l : List (List Float)) (n i : ℕ) (s s' e : Float) → n ≤ length l → i < n
-    → s' ≡ f s (g (get_or l i [])) → fold_left f s (map g (drop i (take n l))) ≡ e → fold_left f s' (map g (drop (i + 1) (take n l))) ≡ e
+-- a fold over rows is one over what is read of them
+pub fold_read : (f : Float → Float → Float) (g : List Float → Float) (b : Float) (l : List (List Float)) → fold (λ h p. f h (g p)) b l ≡ fold_left f b (map g l)
 unfolding fold_left
-fold_row f g l n i s s' e h k q w =
-    let z : length (take n l) ≡ n = length-take-le n l h in
-    let c : drop i (take n l) ≡ get_or l i [] ∷ drop (suc i) (take n l) =
-    drop-cons (take n l) i [] (omega arith) ∙ ap (λ (x : List Float). x ∷ drop (suc i) (take n l)) (get_or-take n l i [] k) in
-    rw (add-one, q) (sym (ap (λ (x : List (List Float)). fold_left f s (map g x)) c) ∙ w)
-
-pub fold_rows-end : (f : Float → Float → Float) (g : List Float → Float) (l : List (List Float)) (n i : ℕ) (s e : Float) → n ≤ i
-    → fold_left f s (map g (drop i (take n l))) ≡ e → s ≡ e
-unfolding fold_left
-fold_rows-end f g l n i s e h w =
-    let z : length (take n l) ≤ i = rw length-take (omega arith) in
-    sym (ap (λ (x : List (List Float)). fold_left f s (map g x)) (drop_of_length-le (take n l) {i = i} z)) ∙ w
+fold_read f g b [] = refl
+fold_read f g b (p ∷ l) = fold_read f g (f b (g p)) l
 
 -- ---- beyond the last stroke
 

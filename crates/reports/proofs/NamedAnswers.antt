@@ -4,7 +4,7 @@ use native.Mathlib.Omega.{arith}
 use mathlib.Core.Path.{◌≡◌, refl, ap, sym, ◌∙◌, subst}
 use mathlib.Core.Bool.{Bool, true, false}
 use mathlib.Core.List.{List, []}
-use mathlib.Core.Option.{none, some}
+use mathlib.Core.Option.{some}
 use lib.IntN.{ℤ}
 use lib.Ieee.{Float}
 use lib.Dec.{ltb}
@@ -19,44 +19,31 @@ use Rattle.strokes.specs.declared.Stand.{Stand}
 use Rattle.strokes.specs.StateRead.{row_bar, fractal_of, row_fractal, no_fractal, state_of}
 use Rattle.strokes.specs.Lent.{Stores}
 use Rattle.question4.specs.Question4.{question4}
-use Rattle.sound.proofs.SoundFacts.{facts}
-use Rattle.question4.proofs.Question4Passed.{is-sound}
 use Rattle.named.specs.declared.stroke_rows.StrokeRows.{StrokeRows}
-use Rattle.reports.specs.declared.asked_measures.MeasuresAnswer.{MeasuresAnswer}
+use Rattle.std.proofs.Common.{Result, Ok, Err, IsErrAnd}
+use Rattle.bars.specs.declared.refusals.Question.{Question}
+use Rattle.bars.specs.declared.refusals.Question.TheVariants.{Exists}
+use Rattle.reports.specs.declared.measures.Measures.{Measures}
+use Rattle.reports.specs.FirstQuestions.{asked_rows}
+use Rattle.reports.proofs.FirstLaws.{rows_no}
 use Rattle.reports.specs.Measures.{measures_of}
 use Rattle.reports.specs.declared.fractal_answers.FractalAnswers.{FractalAnswers}
-use Rattle.reports.specs.declared.asked_fractals.FractalAnswer.{FractalAnswer}
 use Rattle.reports.specs.FractalAnswers.{strength_at, power_str, fractal_volume, has_zs, answers_of}
-use Rattle.reports.specs.NamedFractals.{no_answers, answers_if, stroke_answers_at}
+use Rattle.reports.specs.NamedFractals.{answers_if, stroke_answers_at}
 use Rattle.named.specs.ReportQuestions.{nth, fractals_of, fractal_at}
-use Rattle.reports.specs.NamedStrokes.{no_measures, measures_if, measures_at}
+use Rattle.reports.specs.NamedStrokes.{measures_if, measures_at}
 use Rattle.named.specs.Code.NamedRows.{stroke_in, RowsStand}
 use Rattle.reports.proofs.StrokeColumns.{Lends}
 use Rattle.named.proofs.StrokeAt.{nth-none, nth-at}
 
--- there is no such stroke
-pub stroke-none : (s : Stand) (m : Stores) (i : ℕ) → question4 s m ≡ true → length s.bars ≡ 65 → length s.fractals ≡ 65 → s.strokes ≤ i → nth (state_of s m).strokes i ≡ none
-stroke-none s m i q lb lf h = nth-none (state_of s m).strokes i (omega (arith, (facts s m lb lf (is-sound s m q)).strokes-length))
-
--- by the number of kept strokes that the code has read
-pub stroke-kept : (k n i : ℕ) → n ≡ k → i < n → i < k
-stroke-kept k n i e h = omega arith
-
-pub stroke-after : (k n i : ℕ) → n ≡ k → n ≤ i → k ≤ i
-stroke-after k n i e h = omega arith
-
 module _ (s : Stand) (m : Stores) (i : ℕ) where
-  pub measures_unsound : (r : MeasuresAnswer) → r ≡ record { failed = 4; measures = no_measures } → question4 s m ≡ false → r ≡ measures_at s m i
+  pub measures_refused : (e : Question) (r : Result Measures Question) → length s.bars ≡ 65 → length s.fractals ≡ 65 → IsErrAnd r (λ y. y ≡ e) → Err e ≡ asked_rows s m i → r ≡ measures_at s m i
   unfolding measures_at measures_if
-  measures_unsound r e q = e ∙ ap (λ (t : Bool). measures_if t s.power_places s.ratio_places (state_of s m).raw (nth (state_of s m).strokes i)) (sym q)
+  measures_refused e r lb lf h g = rows_no s m i e r (λ q o. measures_if q s.power_places s.ratio_places (state_of s m).raw o) refl refl lb lf h g
 
-  pub measures_missing : (r : MeasuresAnswer) → r ≡ record { failed = 13; measures = no_measures } → question4 s m ≡ true → nth (state_of s m).strokes i ≡ none → r ≡ measures_at s m i
+  pub measures_given : (x : Measures) (b : Stroke) → x ≡ measures_of s.power_places s.ratio_places (state_of s m).raw b → question4 s m ≡ true → nth (state_of s m).strokes i ≡ some b → Ok x ≡ measures_at s m i
   unfolding measures_at measures_if
-  measures_missing r e q n = e ∙ (λ j. measures_if (sym q j) s.power_places s.ratio_places (state_of s m).raw (sym n j))
-
-  pub measures_given : (r : MeasuresAnswer) (b : Stroke) → r.failed ≡ 0 → r.measures ≡ measures_of s.power_places s.ratio_places (state_of s m).raw b → question4 s m ≡ true → nth (state_of s m).strokes i ≡ some b → r ≡ measures_at s m i
-  unfolding measures_at measures_if
-  measures_given r b f e q n = (λ j. record { failed = f j; measures = e j }) ∙ (λ j. measures_if (sym q j) s.power_places s.ratio_places (state_of s m).raw (sym n j))
+  measures_given x b e q n = ap Ok e ∙ (λ j. measures_if (sym q j) s.power_places s.ratio_places (state_of s m).raw (sym n j))
 
 -- ---- a stroke's fractals
 
@@ -81,18 +68,14 @@ answers_fit s m i w h =
     (subst (RowsStand w) (sym e) h.stands, rw e h.facts.room-strokes.to)
 
 module _ (s : Stand) (m : Stores) (i j : ℕ) where
-  pub answers_unsound : (r : FractalAnswer) → r ≡ record { failed = 4; answers = no_answers } → question4 s m ≡ false → r ≡ stroke_answers_at s m i j
-  unfolding stroke_answers_at answers_if
-  answers_unsound r e q = e ∙ ap (λ (t : Bool). answers_if t (fractal_at (state_of s m).strokes i j)) (sym q)
-
-  pub answers_missing : (r : FractalAnswer) → r ≡ record { failed = 13; answers = no_answers } → question4 s m ≡ true → nth (state_of s m).strokes i ≡ none → r ≡ stroke_answers_at s m i j
+  pub answers_refused : (e : Question) (r : Result FractalAnswers Question) → length s.bars ≡ 65 → length s.fractals ≡ 65 → IsErrAnd r (λ y. y ≡ e) → Err e ≡ asked_rows s m i → r ≡ stroke_answers_at s m i j
   unfolding stroke_answers_at answers_if fractal_at fractals_of nth
-  answers_missing r e q n = e ∙ (λ k. answers_if (sym q k) (nth (fractals_of (sym n k)) j))
+  answers_refused e r lb lf h g = rows_no s m i e r (λ q o. answers_if q (nth (fractals_of o) j)) refl refl lb lf h g
 
   -- a kept stroke: the fractal is missing, or in its row
-  pub answers_in : (r : FractalAnswer) (w : StrokeRows) → Lends s m i w → question4 s m ≡ true
-      → (w.fractals ≤ j → r ≡ record { failed = 13; answers = no_answers })
-      → (j < w.fractals → r ≡ record { failed = 0; answers = answers_of (row_fractal [] (get_or m.fractals.prices (w.first + j) [])) })
+  pub answers_in : (r : Result FractalAnswers Question) (w : StrokeRows) → Lends s m i w → question4 s m ≡ true
+      → (w.fractals ≤ j → r ≡ Err Exists)
+      → (j < w.fractals → r ≡ Ok (answers_of (row_fractal [] (get_or m.fractals.prices (w.first + j) []))))
       → r ≡ stroke_answers_at s m i j
   unfolding stroke_answers_at answers_if fractal_at fractals_of
   answers_in r w h q none_here here =
@@ -104,6 +87,6 @@ module _ (s : Stand) (m : Stores) (i j : ℕ) where
       by_place true e =
           let l = ltb-true j w.fractals e in
           here l
-          ∙ ap (λ (a : FractalAnswers). record { failed = 0; answers = a }) (sym (answers-stamps (get_or m.fractals.stamps (w.first + j) []) (get_or m.fractals.prices (w.first + j) [])))
+          ∙ ap Ok (sym (answers-stamps (get_or m.fractals.stamps (w.first + j) []) (get_or m.fractals.prices (w.first + j) [])))
           ∙ ap (λ (f : Fractal). answers_if true (some f)) (sym (h.row j no_fractal l))
           ∙ ap (answers_if true) (sym (nth-at (stroke_in m w).fractals j no_fractal (omega (arith, l, h.many))))

@@ -1,6 +1,5 @@
 -- The strength's label and number, by the source's tests. Assumes nothing.
 use Prim.Native.Nat.{ℕ, ◌+◌}
-use native.Mathlib.Omega.{arith}
 use mathlib.Core.Path.{◌≡◌, refl, ap, sym, ◌∙◌, subst}
 use mathlib.Core.Bool.{Bool, true, false, cond}
 use mathlib.Core.Option.{Option, none, some, none-ne-some, some-injective}
@@ -15,7 +14,11 @@ use Rattle.strokes.specs.Lent.{Stores}
 use Rattle.named.specs.ReportQuestions.{fractal_at, unfinished_at}
 use Rattle.question4.specs.Question4.{question4}
 use Rattle.reports.specs.declared.fractal_answers.Strength.{Strength}
-use Rattle.reports.specs.declared.asked_fractals.FractalAnswer.{FractalAnswer}
+use Rattle.std.proofs.Common.{Result}
+use Rattle.bars.specs.declared.refusals.Question.{Question}
+use Rattle.bars.specs.declared.refusals.Question.TheVariants.{Sound}
+use Rattle.reports.specs.declared.fractal_answers.FractalAnswers.{FractalAnswers}
+use Rattle.reports.proofs.FirstLaws.{err_ok, ok_same}
 use Rattle.reports.specs.FractalAnswers.{strength_if, strength_at, power_str, label_of, strength_number, closes_beyond, power_label, IsStrength, answers_of}
 use Rattle.reports.specs.NamedFractals.{answers_if, StrengthAnswered, stroke_answers_at, unfinished_answers_at}
 
@@ -62,20 +65,20 @@ strength_given f s e = (e, subst (IsStrength f) (sym e) (strength_is f))
 -- by questions 4 and 13
 strength_if_lem : (q : Bool) (o : Option Fractal) → StrengthAnswered o (answers_if q o)
 unfolding answers_if answers_of
-strength_if_lem false o h f e = absurd (omega arith)
-strength_if_lem true none h f e = absurd (none-ne-some f e)
-strength_if_lem true (some g) h f e = subst (λ (x : Fractal). IsStrength x (power_str g)) (some-injective _ _ e) (strength_is g)
+strength_if_lem false o x h f e = err_ok Sound x h
+strength_if_lem true none x h f e = absurd (none-ne-some f e)
+strength_if_lem true (some g) x h f e = subst (λ (a : FractalAnswers). IsStrength f a.power_str) (ok_same (answers_of g) x h) (subst (λ (y : Fractal). IsStrength y (power_str g)) (some-injective _ _ e) (strength_is g))
 
-strength_answered : (q : Bool) (o : Option Fractal) (r : FractalAnswer) → r ≡ answers_if q o → StrengthAnswered o r
+strength_answered : (q : Bool) (o : Option Fractal) (r : Result FractalAnswers Question) → r ≡ answers_if q o → StrengthAnswered o r
 strength_answered q o r e = subst (StrengthAnswered o) (sym e) (strength_if_lem q o)
 
 -- of a stroke's fractal, and of the unfinished bars'
-pub stroke_strength : (s : Stand) (m : Stores) (i j : ℕ) (r : FractalAnswer) → r ≡ stroke_answers_at s m i j
+pub stroke_strength : (s : Stand) (m : Stores) (i j : ℕ) (r : Result FractalAnswers Question) → r ≡ stroke_answers_at s m i j
     → (r ≡ stroke_answers_at s m i j) × StrengthAnswered (fractal_at (state_of s m).strokes i j) r
 unfolding stroke_answers_at
 stroke_strength s m i j r e = (e, strength_answered (question4 s m) (fractal_at (state_of s m).strokes i j) r e)
 
-pub unfinished_strength : (s : Stand) (m : Stores) (j : ℕ) (r : FractalAnswer) → r ≡ unfinished_answers_at s m j
+pub unfinished_strength : (s : Stand) (m : Stores) (j : ℕ) (r : Result FractalAnswers Question) → r ≡ unfinished_answers_at s m j
     → (r ≡ unfinished_answers_at s m j) × StrengthAnswered (unfinished_at (state_of s m).unfinished j) r
 unfolding unfinished_answers_at
 unfinished_strength s m j r e = (e, strength_answered (question4 s m) (unfinished_at (state_of s m).unfinished j) r e)

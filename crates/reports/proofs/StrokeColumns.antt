@@ -27,6 +27,11 @@ use Rattle.sound.specs.StandSound.{IsSound}
 use Rattle.sound.proofs.SoundReads.{named-elements}
 use Rattle.sound.proofs.SoundFacts.{Facts, facts, sound_fit}
 use Rattle.named.specs.declared.stroke_rows.StrokeRows.{StrokeRows}
+use Rattle.std.proofs.Common.{Ok, true}
+use Rattle.question4.specs.Question4.{question4}
+use Rattle.question4.proofs.Question4Passed.{is-sound}
+use Rattle.reports.specs.FirstQuestions.{asked_rows}
+use Rattle.reports.proofs.FirstLaws.{named_is}
 use Rattle.reports.specs.Measures.{get_raw_bars, closes_of, opens_and_closes}
 use Rattle.reports.specs.Code.ElementPrices.{end_of, elements_in, InColumns}
 use Rattle.named.specs.ReportQuestions.{nth}
@@ -133,6 +138,13 @@ lends s m i r h g e lb lf =
       ends = stop_is s m i g lb lf k w;
       named = every-nth inners t.strokes i (stroke_in m (rows_of s i)) at named;
     })
+
+-- the same of the rows that questions 4 and 13 gave
+pub lends-named : (s : Stand) (m : Stores) (i : ℕ) (r : StrokeRows) → Ok r ≡ asked_rows s m i → length s.bars ≡ 65 → length s.fractals ≡ 65
+    → (question4 s m ≡ true) × Lends s m i r
+lends-named s m i r e lb lf =
+    let g = named_is s m i r e in
+    (g.0, lends s m i r (is-sound s m g.0) g.1 g.2 lb lf)
 
 module _ (s : Stand) (m : Stores) (i : ℕ) (r : StrokeRows) (h : Lends s m i r) where
   abbrev n : ℕ

@@ -23,18 +23,22 @@ use Rattle.machine.specs.Strokes.{Stroke, direction_of, turned}
 use Rattle.machine.proofs.Places.{fractal, Stands, placed_are, placed-stand, placed_ascend, Ascend, fits}
 use Rattle.check_bi.specs.declared.scan.Scan.{Scan}
 use Rattle.check_bi.specs.declared.check_fx.Fx.{Fx}
-use Rattle.check_bi.specs.Code.Scan.{candle_of, fx_at, fx_placed, scan_of}
-use Rattle.check_bi.specs.Code.View.{view, candles}
-use Rattle.check_bi.proofs.ScanPlaces.{seen_of, scan_is, saw, count_means}
+use Rattle.check_bi.specs.Code.Scan.{candle_of, fx_at, fx_placed, scan_of, count_of}
+use Rattle.std.specs.Prelude as Std
+use Rattle.std.specs.Prelude.{Some, None}
+use Rattle.check_bi.specs.Code.View.{candles}
+use Rattle.check_bi.proofs.ScanPlaces.{seen_of, seen_from, scan_is, saw, count_means}
 use Rattle.check_bi.proofs.ScanViews.{candles_are}
 use Rattle.strokes.specs.Code.BarSteps.{RisingRaw}
 use Rattle.strokes.proofs.StoredAgain.{keeping}
 use Rattle.sound.proofs.SoundReads.{rows_of, merged-take, merged-elements}
 use Rattle.reports.specs.declared.ubi.Extremes.{Extremes}
-use Rattle.reports.specs.declared.ubi.FractalBars.{FractalBars}
+use Rattle.reports.specs.declared.fractal_walk.FractalBars.{FractalBars}
 use Rattle.reports.specs.Measures.{elements_of}
 use Rattle.reports.specs.Unfinished.{one_of, highest, lowest, ubi_with, ubi_from, get_ubi}
-use Rattle.reports.specs.UbiAnswers.{three_bars, no_ubi, ubi_given}
+use Rattle.std.proofs.Common.{Ok, Err}
+use Rattle.bars.specs.declared.refusals.Question.TheVariants.{Summary}
+use Rattle.reports.specs.UbiAnswers.{three_bars, ubi_given}
 use Rattle.reports.specs.Code.UbiSteps.{RisingFirst, none_seen, see_if, see, see_at, ubi_of}
 
 -- ---- one bar more
@@ -131,12 +135,16 @@ pub record FirstIs (l : List Merged) (s : Scan) : Type 0 where
   pub stands : drop s.start.place l ≡ first.left ∷ first.mid ∷ first.right ∷ after
   pub count : s.count ≡ length (first ∷ others)
 
-first_in : (l : List Merged) (s : Scan) (ps : List Placed) → s ≡ seen_of ps → s.count ≡ length (check_fxs l) → map fractal ps ≡ check_fxs l → All (Stands l) ps
-    → Ascend 0 (length l) ps → (s.count ≡ 0 → ⊥) → FirstIs l s
-unfolding fx_placed fx_at
-first_in l s [] e n q h a z = absurd (z (n ∙ ap length (sym q)))
-first_in l s (p ∷ ps) e n q h a z =
-    let w = ap (λ (x : Scan). x.start) e ∙ (saw p ps (length l) a).start in
+abbrev start_or : Scan → Std.Option Scan → Fx
+start_or s None = s.start
+start_or s (Some x) = x.start
+
+first_in : (l : List Merged) (s : Scan) (ps : List Placed) → Some s ≡ seen_of ps → s.count ≡ length (check_fxs l) → map fractal ps ≡ check_fxs l → All (Stands l) ps
+    → Ascend 0 (length l) ps → FirstIs l s
+unfolding fx_placed fx_at seen_from
+first_in l s [] e n q h a = let y : ◌≡◌ {A = ℕ} 0 1 = cc in absurd (omega arith)
+first_in l s (p ∷ ps) e n q h a =
+    let w : s.start ≡ fx_placed p = ap (λ (x : Std.Option Scan). start_or s x) e ∙ (saw p ps (length l) a).start in
     record {
       first = p.fractal;
       others = map fractal ps;
@@ -147,14 +155,15 @@ first_in l s (p ∷ ps) e n q h a z =
       count = n ∙ ap length (sym q);
     }
 
-pub first-is : (l : List Merged) (s : Scan) → s ≡ scan_of (map candle_of l) → (s.count ≡ 0 → ⊥) → FirstIs l s
-unfolding check_fxs placed_fxs
-first-is l s e z =
-    first_in l s (placed_after none 0 l) (e ∙ scan_is l) (ap (λ (x : Scan). x.count) e ∙ count_means l) (placed_are none 0 l) (placed-stand l none 0 l refl)
-    (placed_ascend l none 0 l refl) z
+pub first-is : (l : List Merged) (s : Scan) → Some s ≡ scan_of (map candle_of l) → FirstIs l s
+unfolding check_fxs placed_fxs count_of
+first-is l s e =
+    first_in l s (placed_after none 0 l) (e ∙ scan_is l) (ap count_of e ∙ count_means l) (placed_are none 0 l) (placed-stand l none 0 l refl)
+    (placed_ascend l none 0 l refl)
 
-pub no_fractals : (l : List Merged) (s : Scan) → s ≡ scan_of (map candle_of l) → s.count ≡ 0 → check_fxs l ≡ []
-no_fractals l s e z = empty (check_fxs l) (sym (count_means l) ∙ sym (ap (λ (x : Scan). x.count) e) ∙ z)
+pub no_fractals : (l : List Merged) → None ≡ scan_of (map candle_of l) → check_fxs l ≡ []
+unfolding count_of
+no_fractals l e = empty (check_fxs l) (sym (ap count_of e ∙ count_means l))
   where
     empty : (fs : List Fractal) → length fs ≡ 0 → fs ≡ []
     empty [] h = refl
@@ -167,8 +176,7 @@ module _ (u : MergedStore) (k n : ℕ) (h : SizedMerged u k) (few : n ≤ k) whe
   same a b x y = length-take-le n a (rw x few) ∙ sym (length-take-le n b (rw y few))
 
   -- the scan over its columns is that of its bars
-  pub scan_read : (s : Scan) → s ≡ scan_of (drop 0 (candles (view n u.times 0 u.times) (view n u.prices 0 u.prices))) → s ≡ scan_of (map candle_of (take n (merged_bars u)))
-  unfolding view
+  pub scan_read : (s : Std.Option Scan) → s ≡ scan_of (drop 0 (candles (take n u.times ++ []) (take n u.prices ++ []))) → s ≡ scan_of (map candle_of (take n (merged_bars u)))
   scan_read s e =
       e
       ∙ (λ i. scan_of (candles (append-nil (take n u.times) i) (append-nil (take n u.prices) i)))
@@ -213,27 +221,27 @@ module _ (u : MergedStore) (k n : ℕ) (h : SizedMerged u k) (few : n ≤ k) whe
 
 -- ---- the answer
 
-pub refused-last : (raw : List Bar) (l : List Merged) (bs : List Stroke) → length bs ≡ 0 → no_ubi 15 ≡ ubi_given (get_ubi raw l bs)
+pub refused-last : (raw : List Bar) (l : List Merged) (bs : List Stroke) → length bs ≡ 0 → Err Summary ≡ ubi_given (get_ubi raw l bs)
 unfolding get_ubi ubi_from ubi_given last
 refused-last raw l [] h = refl
 refused-last raw l (b ∷ bs) h = let w : ⊥ = omega arith in absurd w
 
-from_no_bar : (raw : List Bar) (l : List Merged) (o : Option Stroke) (fs : List Fractal) → no_ubi 15 ≡ ubi_given (ubi_from raw l o [] fs)
+from_no_bar : (raw : List Bar) (l : List Merged) (o : Option Stroke) (fs : List Fractal) → Err Summary ≡ ubi_given (ubi_from raw l o [] fs)
 unfolding ubi_from ubi_given
 from_no_bar raw l none fs = refl
 from_no_bar raw l (some b) fs = refl
 
-pub refused-bars : (raw : List Bar) (l : List Merged) (bs : List Stroke) → at_times raw (elements_of l) ≡ [] → no_ubi 15 ≡ ubi_given (get_ubi raw l bs)
+pub refused-bars : (raw : List Bar) (l : List Merged) (bs : List Stroke) → at_times raw (elements_of l) ≡ [] → Err Summary ≡ ubi_given (get_ubi raw l bs)
 unfolding get_ubi
 refused-bars raw l bs e = from_no_bar raw l (last bs) (check_fxs l) ∙ ap (λ (rs : List Bar). ubi_given (ubi_from raw l (last bs) rs (check_fxs l))) (sym e)
 
-from_no_fractal : (raw : List Bar) (l : List Merged) (o : Option Stroke) (rs : List Bar) → no_ubi 15 ≡ ubi_given (ubi_from raw l o rs [])
+from_no_fractal : (raw : List Bar) (l : List Merged) (o : Option Stroke) (rs : List Bar) → Err Summary ≡ ubi_given (ubi_from raw l o rs [])
 unfolding ubi_from ubi_given
 from_no_fractal raw l none rs = refl
 from_no_fractal raw l (some b) [] = refl
 from_no_fractal raw l (some b) (r ∷ rs) = refl
 
-pub refused-fractals : (raw : List Bar) (l : List Merged) (bs : List Stroke) → check_fxs l ≡ [] → no_ubi 15 ≡ ubi_given (get_ubi raw l bs)
+pub refused-fractals : (raw : List Bar) (l : List Merged) (bs : List Stroke) → check_fxs l ≡ [] → Err Summary ≡ ubi_given (get_ubi raw l bs)
 unfolding get_ubi
 refused-fractals raw l bs e =
     from_no_fractal raw l (last bs) (at_times raw (elements_of l)) ∙ ap (λ (fs : List Fractal). ubi_given (ubi_from raw l (last bs) (at_times raw (elements_of l)) fs)) (sym e)
@@ -247,7 +255,7 @@ pub given_is : (raw : List Bar) (l : List Merged) (bs : List Stroke) (b : Stroke
     → k ≡ length l
     → n ≡ length raw
     → t ≡ three_bars w.first.mark w.first.left.bar w.first.mid.bar w.first.right.bar
-    → ubi_of d e.high e.low k n s.count t ≡ ubi_given (get_ubi raw l bs)
+    → Ok (ubi_of d e.high e.low k n s.count t) ≡ ubi_given (get_ubi raw l bs)
 unfolding get_ubi ubi_from ubi_given ubi_with ubi_of
 given_is raw l bs b e s d n k t eb ed v w ek en et =
-    (λ i. ubi_of (ed i) (v.high i) (v.low i) (ek i) (en i) (w.count i) (et i)) ∙ (λ i. ubi_given (ubi_from raw l (sym eb i) (sym v.are i) (sym w.are i)))
+    (λ i. Ok (ubi_of (ed i) (v.high i) (v.low i) (ek i) (en i) (w.count i) (et i))) ∙ (λ i. ubi_given (ubi_from raw l (sym eb i) (sym v.are i) (sym w.are i)))

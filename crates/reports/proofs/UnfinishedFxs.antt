@@ -28,7 +28,8 @@ use Rattle.sound.specs.StandSound.{IsSound}
 use Rattle.sound.proofs.SoundFacts.{Facts, facts}
 use Rattle.question4.specs.Question4.{question4}
 use Rattle.question4.proofs.Question4Passed.{is-sound}
-use Rattle.reports.specs.declared.fx_answer.FxListAnswer.{FxListAnswer}
+use Rattle.std.proofs.Common.{ℕ, Result}
+use Rattle.bars.specs.declared.refusals.Question.{Question}
 use Rattle.reports.specs.FractalList.{is_after, list_if, later_than}
 use Rattle.reports.specs.FxAnswers.{FxDone, ubi_fxs_of}
 use Rattle.reports.proofs.FxSame.{later_bare, same_done, fractals_are}
@@ -96,9 +97,9 @@ module _ (s : Stand) (m : Stores) (lb : length s.bars ≡ 65) (lf : length s.fra
       ∙ sym (later_bare none c)
       ∙ ap (map bare_fractal) all_listed
 
-  ubi_done : (d d' : FractalStore) (r : FxListAnswer) → FxDone true (later_than none (fractals_between (raw_part m.unfinished) 0 s.unfinished)) d d' r → FxDone true (ubi_fxs_of (state_of s m)) d d' r
+  ubi_done : (d d' : FractalStore) (r : Result ℕ Question) → FxDone true (later_than none (fractals_between (raw_part m.unfinished) 0 s.unfinished)) d d' r → FxDone true (ubi_fxs_of (state_of s m)) d d' r
   ubi_done d d' r k = same_done true (later_than none (fractals_between (raw_part m.unfinished) 0 s.unfinished)) (ubi_fxs_of (state_of s m)) d d' r windows_alike k
 
-pub ubi-fxs_yes : (s : Stand) (m : Stores) → length s.bars ≡ 65 → length s.fractals ≡ 65 → question4 s m ≡ true → (d d' : FractalStore) (r : FxListAnswer)
+pub ubi-fxs_yes : (s : Stand) (m : Stores) → length s.bars ≡ 65 → length s.fractals ≡ 65 → question4 s m ≡ true → (d d' : FractalStore) (r : Result ℕ Question)
     → FxDone true (later_than none (fractals_between (raw_part m.unfinished) 0 s.unfinished)) d d' r → FxDone (question4 s m) (ubi_fxs_of (state_of s m)) d d' r
 ubi-fxs_yes s m lb lf e d d' r k = subst (λ (t : Bool). FxDone t (ubi_fxs_of (state_of s m)) d d' r) (sym e) (ubi_done s m lb lf (is-sound s m e) d d' r k)

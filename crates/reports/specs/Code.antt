@@ -1,7 +1,6 @@
 pub mod ElementPrices
-pub mod SeekFractals
+pub mod FractalWalk
 pub mod FxListing
-pub mod FxTurns
 pub mod FxRows
 pub mod InnerRawSteps
 pub mod ListSteps

@@ -1,10 +1,11 @@
 -- What get_fx_list and ubi_fxs answer of a stand and its lent stores, and the lent output that they write. Definitions only.
-use Rattle.std.specs.Prelude.{ℕ, Bool, true, false, ◌&&◌, List, ◌≡◌, length, leb}
+use Rattle.std.specs.Prelude.{ℕ, Bool, true, false, ◌&&◌, List, ◌≡◌, length, leb, Result, Ok, Err}
+use Rattle.bars.specs.declared.refusals.Question.{Question}
+use Rattle.bars.specs.declared.refusals.Question.TheVariants.{Sound, OutputRoom}
 use Rattle.machine.specs.Fractals.{Fractal, check_fxs}
 use Rattle.machine.specs.Stand.{State}
 use Rattle.strokes.specs.Lent.{FractalStore}
 use Rattle.strokes.specs.FractalRows.{put_fractals}
-use Rattle.reports.specs.declared.fx_answer.FxListAnswer.{FxListAnswer}
 use Rattle.reports.specs.FractalList.{get_fx_list}
 
 -- ---- the answer
@@ -14,10 +15,10 @@ unfoldable pub fits_all : FractalStore → ℕ → Bool
 fits_all d n = leb n (length d.stamps) && leb n (length d.prices)
 
 -- by question 4 and by question 14, of n fractals
-unfoldable pub listed_by : Bool → Bool → ℕ → FxListAnswer
-listed_by true true n = record { failed = 0; count = n }
-listed_by true false n = record { failed = 14; count = 0 }
-listed_by false u n = record { failed = 4; count = 0 }
+unfoldable pub listed_by : Bool → Bool → ℕ → Result ℕ Question
+listed_by true true n = Ok n
+listed_by true false n = Err OutputRoom
+listed_by false u n = Err Sound
 
 -- a refusal leaves the output as it was
 unfoldable pub output_by : Bool → FractalStore → List Fractal → FractalStore
@@ -26,7 +27,7 @@ output_by true d l = put_fractals d 0 l
 output_by false d l = d
 
 -- The answer r and the output d', which was d, are those of the list l, where t says whether question 4 passed.
-pub record FxDone (t : Bool) (l : List Fractal) (d d' : FractalStore) (r : FxListAnswer) : Type 0 where
+pub record FxDone (t : Bool) (l : List Fractal) (d d' : FractalStore) (r : Result ℕ Question) : Type 0 where
   pub answer : r ≡ listed_by t (fits_all d (length l)) (length l)
   pub output : d' ≡ output_by (t && fits_all d (length l)) d l
 

@@ -1,16 +1,13 @@
 -- What the gap reports answer of a stand and its lent stores: one pair of neighbouring kept raw bars, and all of them. Definitions only.
-use Rattle.std.specs.Prelude.{ℕ, ◌<◌, Bool, true, false, ◌&&◌, List, [], map, ◌≡◌, length, take, get_or, Float}
+use Rattle.std.specs.Prelude.{ℕ, ◌<◌, Bool, true, false, ◌&&◌, List, [], map, ◌≡◌, length, take, get_or, Float, Option, Result, Ok, Err}
 use Rattle.bars.specs.declared.gaps.Gap.{Gap}
-use Rattle.bars.specs.declared.gaps.Gap.TheVariants.{NoGap}
-use Rattle.bars.specs.declared.gaps.GapAnswer.{GapAnswer}
-use Rattle.bars.specs.declared.gaps.GapAnswer.TheVariants.{Pair, Missing}
-use Rattle.bars.specs.Gaps.{gap_at, gaps_of, gap_number, gap_values, gap_covered, answer_number, GapColumns, written}
+use Rattle.bars.specs.declared.refusals.Question.{Question}
+use Rattle.bars.specs.declared.refusals.Question.TheVariants.{Sound, OutputRoom}
+use Rattle.bars.specs.Gaps.{gap_at, gaps_of, gap_number, gap_values, gap_covered, GapColumns, written}
 use Rattle.strokes.specs.declared.Stand.{Stand}
 use Rattle.strokes.specs.Lent.{Stores}
 use Rattle.named.specs.ReportQuestions.{question14}
 use Rattle.question4.specs.Question4.{question4}
-use Rattle.reports.specs.declared.gaps.GapInfo.{GapInfo}
-use Rattle.reports.specs.declared.gaps.GapsAnswer.{GapsAnswer}
 
 -- the rows of prices of the kept raw bars, oldest first
 unfoldable pub kept_prices : Stand → Stores → List (List Float)
@@ -18,28 +15,18 @@ kept_prices s m = take s.raw m.raw.prices
 
 -- ---- one pair
 
-unfoldable pub no_gap : ℕ → GapInfo
-no_gap failed = record { failed = failed; gap = NoGap }
-
--- question 13: whether there is such a pair
-unfoldable pub pair_given : GapAnswer → GapInfo
-unfolding no_gap answer_number
-pair_given (Pair g) = record { failed = answer_number (Pair g); gap = g }
-pair_given Missing = no_gap (answer_number Missing)
-
--- by question 4
-unfoldable pub pair_by : Bool → GapAnswer → GapInfo
-unfolding pair_given no_gap
-pair_by true a = pair_given a
-pair_by false a = no_gap 4
+-- by question 4; question 13, whether there is such a pair, is asked by gap_at
+unfoldable pub pair_by : Bool → Result (Option Gap) Question → Result (Option Gap) Question
+pair_by true a = a
+pair_by false a = Err Sound
 
 -- of the kept raw bars at places i and i + 1, the ratio to the stand's places
-unfoldable pub gap_report : Stand → Stores → ℕ → GapInfo
+unfoldable pub gap_report : Stand → Stores → ℕ → Result (Option Gap) Question
 unfolding pair_by question4 gap_at kept_prices
 gap_report s m i = pair_by (question4 s m) (gap_at s.ratio_places (kept_prices s m) i)
 
 -- g is the gap that the listing of all pairs of these rows, ratios to d places, has at place i: its number, its values and whether it was covered
-pub record ListedAt (d : ℕ) (ps : List (List Float)) (i : ℕ) (g : Gap) : Type 0 where
+pub record ListedAt (d : ℕ) (ps : List (List Float)) (i : ℕ) (g : Option Gap) : Type 0 where
   pub within : i < length (gaps_of d ps)
   pub number : gap_number g ≡ get_or (map gap_number (gaps_of d ps)) i 0
   pub values : gap_values g ≡ get_or (map gap_values (gaps_of d ps)) i []
@@ -49,23 +36,23 @@ pub record ListedAt (d : ℕ) (ps : List (List Float)) (i : ℕ) (g : Gap) : Typ
 
 -- the answer, and the lent columns then
 pub record GapsAnswered : Type 0 where
-  pub answer : GapsAnswer
+  pub answer : Result ℕ Question
   pub columns : GapColumns
 
-abbrev pub gaps_answered : GapsAnswer → GapColumns → GapsAnswered
+abbrev pub gaps_answered : Result ℕ Question → GapColumns → GapsAnswered
 gaps_answered r d = record { answer = r; columns = d }
 
 -- question 14: each column has a place for each pair
-unfoldable pub gaps_fit : GapColumns → List Gap → Bool
+unfoldable pub gaps_fit : GapColumns → List (Option Gap) → Bool
 unfolding question14
 gaps_fit d gs = question14 gs (length d.kinds) && (question14 gs (length d.values) && question14 gs (length d.covered))
 
 -- by question 4 and by question 14: a refusal leaves the columns as they were; else each gap's number, values and cover are in its place
-unfoldable pub gaps_by : Bool → Bool → List Gap → GapColumns → GapsAnswered
+unfoldable pub gaps_by : Bool → Bool → List (Option Gap) → GapColumns → GapsAnswered
 unfolding written
-gaps_by false u gs d = gaps_answered (record { failed = 4; count = 0 }) d
-gaps_by true false gs d = gaps_answered (record { failed = 14; count = 0 }) d
-gaps_by true true gs d = gaps_answered (record { failed = 0; count = length gs }) (written gs (length gs) d)
+gaps_by false u gs d = gaps_answered (Err Sound) d
+gaps_by true false gs d = gaps_answered (Err OutputRoom) d
+gaps_by true true gs d = gaps_answered (Ok (length gs)) (written gs (length gs) d)
 
 -- of all pairs of kept raw bars, oldest first
 unfoldable pub gaps_report : Stand → Stores → GapColumns → GapsAnswered

@@ -1,7 +1,9 @@
 -- The inner raw bars of a kept stroke, written to lent columns: questions 4, 13 and 14, and what stands in the columns then. Definitions only.
-use Rattle.std.specs.Prelude.{ℕ, Bool, true, false, ◌&&◌, List, map, ℤ, length, Float}
+use Rattle.std.specs.Prelude.{ℕ, Bool, true, false, ◌&&◌, List, map, length, Result, Ok, Err}
 use Rattle.std.proofs.Math.Option.{Option, none, some}
 use Rattle.bars.specs.declared.Bar.{Bar}
+use Rattle.bars.specs.declared.refusals.Question.{Question}
+use Rattle.bars.specs.declared.refusals.Question.TheVariants.{Sound, Exists, OutputRoom}
 use Rattle.bars.specs.Bars.{row_of}
 use Rattle.stores.specs.Stores.{RawStore, raw_store}
 use Rattle.machine.specs.Strokes.{Stroke}
@@ -10,7 +12,6 @@ use Rattle.strokes.specs.StateRead.{state_of}
 use Rattle.strokes.specs.Lent.{Stores}
 use Rattle.strokes.specs.FractalRows.{pasted}
 use Rattle.question4.specs.Question4.{question4}
-use Rattle.reports.specs.declared.asked_raw_bars.RawBarsAnswer.{RawBarsAnswer}
 use Rattle.reports.specs.Measures.{get_raw_bars}
 use Rattle.named.specs.ReportQuestions.{nth, question14}
 
@@ -23,17 +24,13 @@ put_bars d at bs = raw_store (pasted d.times at (map (λ b. b.time) bs)) (pasted
 
 -- ---- what is answered
 
--- the answer, and the columns then
+-- the answer, how many bars or the question that failed, and the columns then
 pub record RawBarsListed : Type 0 where
-  pub answer : RawBarsAnswer
+  pub answer : Result ℕ Question
   pub columns : RawStore
 
-abbrev pub listed : RawBarsAnswer → List ℤ → List ℤ → List (List Float) → RawBarsListed
-listed r ts is ps = record { answer = r; columns = raw_store ts is ps }
-
--- the number of the question that failed; the columns stay
-abbrev pub refused_by : ℕ → RawBarsAnswer
-refused_by q = record { failed = q; count = 0 }
+abbrev pub listed : Result ℕ Question → RawStore → RawBarsListed
+listed r d = record { answer = r; columns = d }
 
 -- question 14: has each column a place for each of these bars?
 unfoldable pub places_for : List Bar → RawStore → Bool
@@ -42,8 +39,8 @@ places_for bs d = question14 bs (length d.times) && question14 bs (length d.ids)
 
 unfoldable pub list_if : Bool → List Bar → RawStore → RawBarsListed
 unfolding put_bars
-list_if false bs d = record { answer = refused_by 14; columns = d }
-list_if true bs d = record { answer = record { failed = 0; count = length bs }; columns = put_bars d 0 bs }
+list_if false bs d = listed (Err OutputRoom) d
+list_if true bs d = listed (Ok (length bs)) (put_bars d 0 bs)
 
 -- these bars from place 0 on, if there is a place for each
 unfoldable pub list_bars : List Bar → RawStore → RawBarsListed
@@ -53,8 +50,9 @@ list_bars bs d = list_if (places_for bs d) bs d
 -- question 4, then question 13, whether there is such a stroke, then 14
 unfoldable pub raw_bars_if : Bool → List Bar → Option Stroke → RawStore → RawBarsListed
 unfolding list_bars get_raw_bars
-raw_bars_if false raw o d = record { answer = refused_by 4; columns = d }
-raw_bars_if true raw none d = record { answer = refused_by 13; columns = d }
+-- a refusal leaves the columns as they were
+raw_bars_if false raw o d = listed (Err Sound) d
+raw_bars_if true raw none d = listed (Err Exists) d
 raw_bars_if true raw (some b) d = list_bars (get_raw_bars raw b) d
 
 -- of the stroke at place i, into the columns d

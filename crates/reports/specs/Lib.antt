@@ -1,3 +1,4 @@
+pub mod FirstQuestions
 pub mod Measures
 pub mod FractalAnswers
 pub mod FractalList

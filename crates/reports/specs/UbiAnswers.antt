@@ -1,18 +1,18 @@
 -- What get_ubi answers of a stand and its lent stores, and how its highest and lowest bar are found in one pass. Definitions only.
-use Rattle.std.specs.Prelude.{ℕ, Bool, true, false, length, pos}
+use Rattle.std.specs.Prelude.{Bool, true, false, length, pos, Result, Ok, Err}
 use Rattle.std.proofs.Math.Option.{Option, none, some}
 use Rattle.std.specs.Float.{fin}
 use Rattle.bars.specs.declared.Bar.{Bar}
+use Rattle.bars.specs.declared.refusals.Question.{Question}
+use Rattle.bars.specs.declared.refusals.Question.TheVariants.{Sound, Summary}
 use Rattle.machine.specs.declared.Mark.{Mark}
-use Rattle.machine.specs.declared.Mark.TheVariants.{D}
-use Rattle.machine.specs.declared.Direction.TheVariants.{Up}
 use Rattle.machine.specs.Stand.{State}
 use Rattle.strokes.specs.declared.Stand.{Stand}
 use Rattle.strokes.specs.StateRead.{state_of}
 use Rattle.strokes.specs.Lent.{Stores}
 use Rattle.question4.specs.Question4.{question4}
-use Rattle.reports.specs.declared.ubi.FractalBars.{FractalBars}
-use Rattle.reports.specs.declared.ubi.UbiAnswer.{UbiAnswer}
+use Rattle.reports.specs.declared.fractal_walk.FractalBars.{FractalBars}
+use Rattle.reports.specs.declared.ubi.UbiSummary.{UbiSummary}
 use Rattle.reports.specs.Unfinished.{Ubi, get_ubi}
 
 -- ---- one pass over the raw bars that elements name
@@ -35,30 +35,13 @@ no_bar =
 unfoldable pub three_bars : Mark → Bar → Bar → Bar → FractalBars
 three_bars m a b c = record { mark = m; left = a; mid = b; right = c }
 
--- a refusal: its number, and zeros
-unfoldable pub no_ubi : ℕ → UbiAnswer
-unfolding no_bar three_bars
-no_ubi failed =
-    record {
-      failed = failed;
-      direction = Up;
-      high = fin false 0 (pos 0);
-      low = fin false 0 (pos 0);
-      highBar = no_bar;
-      lowBar = no_bar;
-      bars = 0;
-      raw = 0;
-      fractals = 0;
-      first = three_bars D no_bar no_bar no_bar;
-    }
-
 -- the summary, where question 15 says yes; its lists by their lengths
-unfoldable pub ubi_given : Option Ubi → UbiAnswer
-unfolding no_ubi three_bars
-ubi_given none = no_ubi 15
+unfoldable pub ubi_given : Option Ubi → Result UbiSummary Question
+unfolding three_bars
+ubi_given none = Err Summary
 ubi_given (some u) =
-    record {
-      failed = 0;
+    Ok
+    (record {
       direction = u.direction;
       high = u.high;
       low = u.low;
@@ -68,14 +51,14 @@ ubi_given (some u) =
       raw = length u.raw;
       fractals = length u.fractals;
       first = three_bars u.first.mark u.first.left.bar u.first.mid.bar u.first.right.bar;
-    }
+    })
 
 -- by question 4
-unfoldable pub ubi_by : Bool → State → UbiAnswer
-unfolding ubi_given get_ubi no_ubi
+unfoldable pub ubi_by : Bool → State → Result UbiSummary Question
+unfolding ubi_given get_ubi
 ubi_by true s = ubi_given (get_ubi s.raw s.unfinished s.strokes)
-ubi_by false s = no_ubi 4
+ubi_by false s = Err Sound
 
-unfoldable pub ubi_answer : Stand → Stores → UbiAnswer
+unfoldable pub ubi_answer : Stand → Stores → Result UbiSummary Question
 unfolding ubi_by question4 state_of
 ubi_answer s m = ubi_by (question4 s m) (state_of s m)

@@ -3,44 +3,21 @@ ghost use Rattle.std.specs.Prelude.{◌≡◌, List, ◌≤◌, length, take, T}
 ghost use Rattle.arith.specs.SlopeDivisor.{ExactDivisor};
 ghost use Rattle.bars.specs.declared.Bar.{Bar as BarOf};
 ghost use Rattle.stores.specs.Code.StoreRows.{rising};
-ghost use Rattle.strokes.specs.Lent.{stores_seen};
+ghost use Rattle.strokes.specs.Columns.{stores_in};
 ghost use Rattle.machine.specs.Strokes.{Stroke};
 ghost use Rattle.sound.specs.Code.SoundStand.{named_rows};
 ghost use Rattle.reports.specs.Measures.{measures_of};
 ghost use Rattle.reports.specs.Code.ElementPrices.{end_of, InColumns};
-ghost use Rattle.reports.specs.NamedStrokes.{no_measures, measures_at};
+ghost use Rattle.reports.specs.NamedStrokes.{measures_at};
 ghost use Rattle.reports.specs.Code.MeasuredRows.{CanMeasure, ShownBy};
 ghost use Rattle.named.specs.Code.NamedRows.{cut};
 
+use super::first_questions::ask_stroke;
 use super::measures::{Measures, StrokeEnd};
 use super::{measures, rows_shown};
+use bars::Question;
 use named::StrokeRows;
-use strokes::Stand;
-
-// Document 01's number of the first question that failed, 0 where none did, and the measures.
-#[derive(Clone, Copy)]
-pub struct MeasuresAnswer {
-    pub failed: u64,
-    pub measures: Measures,
-}
-
-fn refused(failed: u64) -> MeasuresAnswer
-    ensures { result ≡ record { failed = failed; measures = no_measures } }
-{
-    let measures = Measures {
-        high: 0.0,
-        low: 0.0,
-        power_price: 0.0,
-        power_volume: 0.0,
-        snr: 0.0,
-        power_snr: 0.0,
-        change: 0.0,
-        slope: 0.0,
-        acceleration: 0.0,
-        length: 0,
-    };
-    MeasuresAnswer { failed, measures }
-}
+use strokes::{Stand, StoreColumns};
 
 // Of the merged bars from place a on and before place z, and of the first n raw bars.
 fn part_measures(
@@ -107,41 +84,25 @@ fn measures_in(
 // error from 2 to 65,536 inner raw bars (ExactDivisor); beyond that it is what the float steps give.
 pub fn measures_at(
     stand: Stand,
-    rt: &[i64],
-    ri: &[i32],
-    rp: &[[f64; 6]],
-    ut: &[i64],
-    ui: &[i32],
-    up: &[[f64; 6]],
-    uc: &[usize],
-    ue: &[[i64; 101]],
-    st: &[i64],
-    si: &[i32],
-    sp: &[[f64; 6]],
-    sc: &[usize],
-    se: &[[i64; 101]],
-    fs: &[[i64; 6]],
-    fp: &[[f64; 18]],
+    stores: StoreColumns<'_>,
     place: usize,
-) -> MeasuresAnswer
-    ensures { (result ≡ measures_at stand (stores_seen rt ri rp ut ui up uc ue st si sp sc se fs fp) place) × ExactDivisor }
+) -> Result<Measures, Question>
+    ensures { (result ≡ measures_at stand (stores_in stores.entry) place) × ExactDivisor }
 {
-    if !question4::is_sound(
-        stand, rt, ri, rp, ut, ui, up, uc, ue, st, si, sp, sc, se, fs, fp,
-    ) {
-        return refused(4);
-    }
-    let kept = named::kept(stand);
-    if kept <= place {
-        return refused(13);
-    }
-    let n = stand.raw;
-    let rows = named::rows_of(stand, place);
-    let power = stand.power_places;
-    let ratio = stand.ratio_places;
-    let measures = measures_in(power, ratio, rows, rt, rp, n, sp, sc, se, fp);
-    MeasuresAnswer {
-        failed: 0,
-        measures,
-    }
+    let rows = ask_stroke(stand, stores, place)?;
+    let raw = stores.raw;
+    let bars = stores.strokes;
+    let measures = measures_in(
+        stand.power_places,
+        stand.ratio_places,
+        rows,
+        raw.times,
+        raw.prices,
+        stand.raw,
+        bars.prices,
+        bars.counts,
+        bars.elements,
+        stores.fractals.prices,
+    );
+    Ok(measures)
 }

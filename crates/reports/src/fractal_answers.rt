@@ -1,10 +1,10 @@
-// The three answers of a fractal. A fractal is given by its mark and its three bars; elements are no
-// part of any answer, so in contracts its bars have none.
-ghost use Rattle.std.specs.Prelude.{◌≡◌, []};
+// The three answers of a fractal. Elements are no part of any answer, so in contracts its bars have none (plain).
+ghost use Rattle.std.specs.Prelude.{◌≡◌};
 ghost use Rattle.reports.specs.FractalAnswers.{strength_if, power_str, IsStrength, fractal_volume, has_zs, answers_of};
+ghost use Rattle.reports.specs.Code.FractalWalk.{plain};
 
+use super::fractal_walk::FractalBars;
 use arith::{max, min};
-use bars::Bar;
 use machine::Mark;
 
 // power_str of the source: how far the third bar closes back.
@@ -35,41 +35,47 @@ fn strength_of(strong: bool, medium: bool) -> Strength
     Strength::Weak
 }
 
-// After a bottom, the third bar's close against the highs of the first two; after a top, against their lows.
-pub fn power_str(mark: Mark, a: Bar, b: Bar, c: Bar) -> Strength
-    ensures { (result ≡ power_str (record { mark = mark; left = record { bar = a; elements = [] }; mid = record { bar = b; elements = [] }; right = record { bar = c; elements = [] } })) × IsStrength (record { mark = mark; left = record { bar = a; elements = [] }; mid = record { bar = b; elements = [] }; right = record { bar = c; elements = [] } }) result }
-{
-    match mark {
-        Mark::D => strength_of(a.high < c.close, b.high < c.close),
-        Mark::G => strength_of(c.close < a.low, c.close < b.low),
+impl FractalBars {
+    // After a bottom, the third bar's close against the highs of the first two; after a top, against their lows.
+    pub fn power_str(self) -> Strength
+        ensures { (result ≡ power_str (plain self)) × IsStrength (plain self) result }
+    {
+        let close = self.right.close;
+        match self.mark {
+            Mark::D => strength_of(self.left.high < close, self.mid.high < close),
+            Mark::G => strength_of(close < self.left.low, close < self.mid.low),
+        }
     }
-}
 
-// The vol of the three bars, added from the first.
-pub fn power_volume(mark: Mark, a: Bar, b: Bar, c: Bar) -> f64
-    ensures { result ≡ fractal_volume (record { mark = mark; left = record { bar = a; elements = [] }; mid = record { bar = b; elements = [] }; right = record { bar = c; elements = [] } }) }
-{
-    a.vol + b.vol + c.vol
-}
+    // The vol of the three bars, added from the first.
+    pub fn power_volume(self) -> f64
+        ensures { result ≡ fractal_volume (plain self) }
+    {
+        self.left.vol + self.mid.vol + self.right.vol
+    }
 
-// The greatest low is at most the least high: folds from the infinities, as the source has them.
-pub fn has_zs(mark: Mark, a: Bar, b: Bar, c: Bar) -> bool
-    ensures { result ≡ has_zs (record { mark = mark; left = record { bar = a; elements = [] }; mid = record { bar = b; elements = [] }; right = record { bar = c; elements = [] } }) }
-{
-    let zd = max(max(max(-1.0 / 0.0, a.low), b.low), c.low);
-    let zg = min(min(min(1.0 / 0.0, a.high), b.high), c.high);
-    zd <= zg
-}
+    // The greatest low is at most the least high: folds from the infinities, as the source has them.
+    pub fn has_zs(self) -> bool
+        ensures { result ≡ has_zs (plain self) }
+    {
+        let zd = max(
+            max(max(-1.0 / 0.0, self.left.low), self.mid.low),
+            self.right.low,
+        );
+        let zg = min(
+            min(min(1.0 / 0.0, self.left.high), self.mid.high),
+            self.right.high,
+        );
+        zd <= zg
+    }
 
-pub fn answers_of(mark: Mark, a: Bar, b: Bar, c: Bar) -> FractalAnswers
-    ensures { result ≡ answers_of (record { mark = mark; left = record { bar = a; elements = [] }; mid = record { bar = b; elements = [] }; right = record { bar = c; elements = [] } }) }
-{
-    let power = power_str(mark, a, b, c);
-    let volume = power_volume(mark, a, b, c);
-    let zs = has_zs(mark, a, b, c);
-    FractalAnswers {
-        power_str: power,
-        power_volume: volume,
-        has_zs: zs,
+    pub fn answers(self) -> FractalAnswers
+        ensures { result ≡ answers_of (plain self) }
+    {
+        FractalAnswers {
+            power_str: self.power_str(),
+            power_volume: self.power_volume(),
+            has_zs: self.has_zs(),
+        }
     }
 }

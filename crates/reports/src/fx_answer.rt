@@ -1,123 +1,85 @@
 // The fractals of the kept strokes and of the unfinished bars, each later than the one before: get_fx_list of the
-// source, asked of a stand and its lent stores and written to the lent columns os and op. Question 4 is asked first,
+// source, asked of a stand and its lent stores and written to the lent columns `out`. Question 4 is asked first,
 // then question 14: whether the columns have places for all that are listed. A first pass counts them.
 ghost use Rattle.std.specs.Prelude.{◌≡◌, true};
 ghost use Rattle.std.proofs.Math.Option.{none};
 ghost use Rattle.strokes.specs.StateRead.{state_of};
-ghost use Rattle.strokes.specs.Lent.{fractals_before, fractals_after, fractals_lent, fractals_seen, stores_seen};
+ghost use Rattle.strokes.specs.Columns.{fractals_in, fractals_of, stores_in, SameFractals};
 ghost use Rattle.question4.specs.Question4.{question4};
 ghost use Rattle.reports.specs.FractalList.{later_than};
 ghost use Rattle.reports.specs.Code.FxListing.{listing, step_all, CanList};
 ghost use Rattle.reports.specs.FxAnswers.{FxDone, fx_list_of};
 ghost use Rattle.reports.specs.Code.FxRows.{all_rows, CanGo};
-ghost use Rattle.stores.specs.Lent.{raw_lent, raw_seen};
+ghost use Rattle.stores.specs.Columns.{raw_in};
 
-use super::fx_list::{Listed, step_strokes};
-use super::fx_windows::step_windows;
-use named::kept;
-use strokes::Stand;
-
-// How many fractals are listed, here and by ubi_fxs. Beside a refusal's number it is 0.
-#[derive(Clone, Copy)]
-pub struct FxListAnswer {
-    pub failed: u64,
-    pub count: usize,
-}
+use super::first_questions::ask_sound;
+use super::fx_list::{Listed, step_strokes, step_windows};
+use bars::Question;
+use stores::RawColumns;
+use strokes::{FractalColumns, FractalColumnsMut, Stand, StoreColumns};
 
 // ---- both passes
 
 // All fractals, through the step that lists them.
 fn step_all(
-    os: &mut [[i64; 6]],
-    op: &mut [[f64; 18]],
+    out: &mut FractalColumnsMut<'_>,
     write: bool,
     s: Listed,
     stand: Stand,
-    ut: &[i64],
-    ui: &[i32],
-    up: &[[f64; 6]],
-    fs: &[[i64; 6]],
-    fp: &[[f64; 18]],
+    bars: RawColumns<'_>,
+    kept: FractalColumns<'_>,
 ) -> Listed
-    requires fact_1 { CanGo stand (raw_lent ut ui up) (fractals_lent fs fp) }
-    requires fact_2 { CanList write (listing os.old op.old s) (all_rows stand (raw_lent ut ui up) (fractals_lent fs fp)) }
-    ensures { listing os.new op.new result ≡ step_all write (listing os.old op.old s) (all_rows stand (raw_seen ut ui up) (fractals_seen fs fp)) }
+    requires fact_1 { CanGo stand (raw_in bars) (fractals_in kept) }
+    requires fact_2 { CanList write (listing (fractals_of out.old) s) (all_rows stand (raw_in bars) (fractals_in kept)) }
+    ensures listed { listing (fractals_of out.new) result ≡ step_all write (listing (fractals_of out.old) s) (all_rows stand (raw_in bars.entry) (fractals_in kept.entry)) }
+    ensures same { SameFractals out.old out.new }
 {
-    let k = stand.strokes;
-    let n = stand.unfinished;
-    let bars = stand.bars;
-    let fractals = stand.fractals;
-    let r = step_strokes(os, op, write, s, fs, fp, bars, fractals, k);
-    step_windows(os, op, write, r, ut, ui, up, n)
+    let r = step_strokes(
+        out,
+        write,
+        s,
+        kept,
+        stand.bars,
+        stand.fractals,
+        stand.strokes,
+    );
+    step_windows(out, write, r, bars, stand.unfinished)
 }
 
 // The first pass, question 14 and the second pass.
 fn list_all(
-    os: &mut [[i64; 6]],
-    op: &mut [[f64; 18]],
+    out: &mut FractalColumnsMut<'_>,
     stand: Stand,
-    ut: &[i64],
-    ui: &[i32],
-    up: &[[f64; 6]],
-    fs: &[[i64; 6]],
-    fp: &[[f64; 18]],
-) -> FxListAnswer
-    requires { CanGo stand (raw_lent ut ui up) (fractals_lent fs fp) }
-    ensures { FxDone true (later_than none (all_rows stand (raw_seen ut ui up) (fractals_seen fs fp))) (fractals_before os op) (fractals_after os op) result }
+    bars: RawColumns<'_>,
+    kept: FractalColumns<'_>,
+) -> Result<usize, Question>
+    requires { CanGo stand (raw_in bars) (fractals_in kept) }
+    ensures done { FxDone true (later_than none (all_rows stand (raw_in bars.entry) (fractals_in kept.entry))) (fractals_of out.old) (fractals_of out.new) result }
+    ensures same { SameFractals out.old out.new }
 {
     let s = Listed { count: 0, time: 0 };
-    let a = step_all(os, op, false, s, stand, ut, ui, up, fs, fp);
+    let a = step_all(out, false, s, stand, bars, kept);
     let n = a.count;
-    if os.len() < n {
-        return FxListAnswer {
-            failed: 14,
-            count: 0,
-        };
+    let room = out.stamps.len().min(out.prices.len());
+    if room < n {
+        return Err(Question::OutputRoom);
     }
-    if op.len() < n {
-        return FxListAnswer {
-            failed: 14,
-            count: 0,
-        };
-    }
-    let b = step_all(os, op, true, s, stand, ut, ui, up, fs, fp);
-    let count = b.count;
-    FxListAnswer { failed: 0, count }
+    let b = step_all(out, true, s, stand, bars, kept);
+    Ok(b.count)
 }
 
 // ---- of any stand
 
+// How many fractals are listed. Questions 4 and 14.
 pub fn get_fx_list(
     stand: Stand,
-    rt: &[i64],
-    ri: &[i32],
-    rp: &[[f64; 6]],
-    ut: &[i64],
-    ui: &[i32],
-    up: &[[f64; 6]],
-    uc: &[usize],
-    ue: &[[i64; 101]],
-    st: &[i64],
-    si: &[i32],
-    sp: &[[f64; 6]],
-    sc: &[usize],
-    se: &[[i64; 101]],
-    fs: &[[i64; 6]],
-    fp: &[[f64; 18]],
-    os: &mut [[i64; 6]],
-    op: &mut [[f64; 18]],
-) -> FxListAnswer
-    ensures { FxDone (question4 stand (stores_seen rt ri rp ut ui up uc ue st si sp sc se fs fp)) (fx_list_of (state_of stand (stores_seen rt ri rp ut ui up uc ue st si sp sc se fs fp))) (fractals_before os op) (fractals_after os op) result }
+    stores: StoreColumns<'_>,
+    out: &mut FractalColumnsMut<'_>,
+) -> Result<usize, Question>
+    ensures done { FxDone (question4 stand (stores_in stores.entry)) (fx_list_of (state_of stand (stores_in stores.entry))) (fractals_of out.old) (fractals_of out.new) result }
+    ensures same { SameFractals out.old out.new }
 {
-    // Its contract says how long the stand's lists of counts are.
-    let k = kept(stand);
-    if !question4::is_sound(
-        stand, rt, ri, rp, ut, ui, up, uc, ue, st, si, sp, sc, se, fs, fp,
-    ) {
-        return FxListAnswer {
-            failed: 4,
-            count: 0,
-        };
-    }
-    list_all(os, op, stand, ut, ui, up, fs, fp)
+    ask_sound(stand, stores)?;
+    let bars = stores.unfinished.bars();
+    list_all(out, stand, bars, stores.fractals)
 }

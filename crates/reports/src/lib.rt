@@ -4,28 +4,26 @@
 mod asked_fractals;
 mod asked_measures;
 mod asked_raw_bars;
+mod finished;
+mod first_questions;
 mod fractal_answers;
+mod fractal_walk;
 mod fx_answer;
 mod fx_list;
-mod fx_windows;
+mod gaps;
 mod measures;
 mod rows_shown;
-mod seek_fractals;
-
-pub use asked_fractals::{FractalAnswer, stroke_fractal_answers, unfinished_fractal_answers};
-pub use asked_measures::MeasuresAnswer;
-
-mod finished;
-mod gaps;
 mod ubi;
 mod ubi_list;
 
+pub use asked_fractals::{stroke_fractal_answers, unfinished_fractal_answers};
 pub use asked_measures::measures_at;
-pub use asked_raw_bars::{RawBarsAnswer, raw_bars};
-pub use finished::{FinishedBis, LastBiExtend, get_finished_bis, last_bi_extend};
+pub use asked_raw_bars::raw_bars;
+pub use finished::{get_finished_bis, last_bi_extend};
 pub use fractal_answers::{FractalAnswers, Strength};
-pub use fx_answer::{FxListAnswer, get_fx_list};
-pub use gaps::{GapInfo, GapsAnswer, check_gap_info, check_gaps};
+pub use fractal_walk::FractalBars;
+pub use fx_answer::get_fx_list;
+pub use gaps::{check_gap_info, check_gaps};
 pub use measures::Measures;
-pub use ubi::{FractalBars, UbiAnswer, get_ubi};
+pub use ubi::{UbiSummary, get_ubi};
 pub use ubi_list::ubi_fxs;

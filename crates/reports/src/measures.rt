@@ -1,5 +1,5 @@
 // The measures of a stroke.
-ghost use Rattle.std.specs.Prelude.{◌≡◌, ◌<◌, min, length, take, get_or, pos, T};
+ghost use Rattle.std.specs.Prelude.{◌≡◌, ◌<◌, length, take, get_or, pos, T};
 ghost use mathlib.Core.List.{List, map, foldl};
 ghost use Rattle.std.specs.Float.{nan, binary64};
 ghost use Rattle.std.specs.Float.Ieee.{fits};
@@ -15,7 +15,7 @@ ghost use Rattle.reports.specs.Measures.{power_price, volume_of, change as chang
 ghost use Rattle.reports.specs.Code.ElementPrices.{elements_in, prices_at, slope_at, end_of, InColumns, SumsOver, closes_read, pairs_read};
 ghost use Rattle.bars.specs.declared.Bar.{Bar as BarOf};
 
-use arith::{FitSums, MeanSums, SlopeSums, SnrSums};
+use arith::{Accumulator, FitSums, MeanSums, SlopeSums, SnrSums};
 use machine::Mark;
 
 // What bi.rs answers of a stroke. `length` is the number of its merged bars.
@@ -96,11 +96,9 @@ fn volume(ps: &[[f64; 6]]) -> f64
     }
     let p = ps[0];
     let mut s = p[4];
-    let mut i: usize = 1;
-    while i < n {
+    for i in 1..n {
         let q = ps[i];
         s = s + q[4];
-        i += 1;
     }
     s
 }
@@ -108,15 +106,6 @@ fn volume(ps: &[[f64; 6]]) -> f64
 // ---- of the inner raw bars. They are read where they stand: each element of a merged bar is looked
 // up among the raw times, and nothing is copied. In contracts the raw bar of the time t is at the
 // place that place_of gives, and its row of prices has open at 0 and close at 1.
-
-pub fn shorter(a: usize, b: usize) -> usize
-    ensures { result ≡ min a b }
-{
-    if a < b {
-        return a;
-    }
-    b
-}
 
 // The row of prices of the raw bar that element j of a row names.
 fn named_prices(rt: &[i64], rp: &[[f64; 6]], row: &[i64], j: usize) -> [f64; 6]
@@ -177,13 +166,11 @@ impl InnerSums {
         requires fact_3 { T (every (is_time rt.now) (take count row.now)) }
         ensures { SumsOver rt.now rp.now self (take count row.now) result }
     {
-        let n = shorter(count, row.len());
+        let n = count.min(row.len());
         let mut sums = self;
-        let mut j: usize = 0;
-        while j < n {
+        for j in 0..n {
             let p = named_prices(rt, rp, row, j);
             sums = sums.more(p);
-            j += 1;
         }
         sums
     }
@@ -196,10 +183,8 @@ impl InnerSums {
         ensures { SumsOver rt.now rp.now self (elements_in cs.now es.now) result }
     {
         let mut sums = self;
-        let mut i: usize = 0;
-        while i < cs.len() {
+        for i in 0..cs.len() {
             sums = sums.row(rt, rp, &es[i], cs[i]);
-            i += 1;
         }
         sums
     }
@@ -212,13 +197,11 @@ fn slope_row(s: SlopeSums, rt: &[i64], rp: &[[f64; 6]], row: &[i64], count: usiz
     requires fact_3 { T (every (is_time rt.now) (take count row.now)) }
     ensures { result ≡ foldl (slope_at rt.now rp.now) s (take count row.now) }
 {
-    let n = shorter(count, row.len());
+    let n = count.min(row.len());
     let mut sums = s;
-    let mut j: usize = 0;
-    while j < n {
+    for j in 0..n {
         let p = named_prices(rt, rp, row, j);
         sums = sums.more(p[1]);
-        j += 1;
     }
     sums
 }
@@ -236,10 +219,8 @@ fn slope_rows(
     ensures { result ≡ foldl (slope_at rt.now rp.now) s (elements_in cs.now es.now) }
 {
     let mut sums = s;
-    let mut i: usize = 0;
-    while i < cs.len() {
+    for i in 0..cs.len() {
         sums = slope_row(sums, rt, rp, &es[i], cs[i]);
-        i += 1;
     }
     sums
 }

@@ -5,8 +5,8 @@ ghost use Rattle.strokes.specs.StateRead.{row_fractal};
 ghost use Rattle.reports.specs.Code.ElementPrices.{end_of};
 ghost use Rattle.reports.specs.FractalAnswers.{answers_of};
 
-use super::fractal_answers;
 use super::fractal_answers::FractalAnswers;
+use super::fractal_walk::FractalBars;
 use super::measures::StrokeEnd;
 use bars::Bar;
 use strokes::row_mark;
@@ -48,9 +48,11 @@ pub fn row_answers(fp: &[[f64; 18]], i: usize) -> FractalAnswers
     ensures { result ≡ answers_of (row_fractal [] (get_or fp.now i [])) }
 {
     let p = fp[i];
-    let mark = row_mark(p);
-    let a = row_bar(p, 0);
-    let b = row_bar(p, 6);
-    let c = row_bar(p, 12);
-    fractal_answers::answers_of(mark, a, b, c)
+    let fractal = FractalBars {
+        mark: row_mark(p),
+        left: row_bar(p, 0),
+        mid: row_bar(p, 6),
+        right: row_bar(p, 12),
+    };
+    fractal.answers()
 }

@@ -1,24 +1,28 @@
 // The summary of the unfinished stroke: get_ubi of the source, asked of a stand and its lent stores. Question 4
 // is asked first, then question 15.
-ghost use Rattle.std.specs.Prelude.{◌≡◌, ◌+◌, ◌≤◌, min, length, take};
+ghost use Rattle.std.specs.Prelude.{◌≡◌, ◌+◌, ◌≤◌, length, take};
 ghost use mathlib.Core.List.{foldl};
 ghost use Rattle.std.specs.Float.Ieee.{lt, le};
 ghost use Rattle.bars.specs.Lists.{join};
 ghost use Rattle.stores.specs.Stores.{raw_bars, zip_with};
 ghost use Rattle.stores.specs.Code.StoreRows.{RoomRaw, bar_at};
 ghost use Rattle.strokes.specs.StateRead.{state_of};
-ghost use Rattle.strokes.specs.Lent.{stores_lent, stores_seen};
+ghost use Rattle.strokes.specs.Columns.{stores_in};
 ghost use Rattle.sound.specs.StandSound.{IsSound};
 ghost use Rattle.reports.specs.Unfinished.{one_of, get_ubi};
 ghost use Rattle.machine.specs.Strokes.{turned as turnedOf};
-ghost use Rattle.reports.specs.UbiAnswers.{no_bar, three_bars, no_ubi, ubi_given, ubi_answer};
+ghost use Rattle.reports.specs.UbiAnswers.{no_bar, three_bars, ubi_given, ubi_answer};
 ghost use Rattle.reports.specs.Code.UbiSteps.{RisingFirst, none_seen, see as seeOf, see_at, ubi_of};
-ghost use Rattle.stores.specs.Lent.{raw_lent, raw_seen};
+ghost use Rattle.stores.specs.Columns.{raw_in};
 
-use bars::Bar;
+use super::first_questions::ask_sound;
+use super::fractal_walk::FractalBars;
+use bars::{Bar, Question};
+use check_bi::View;
 use machine::{Direction, Mark};
 use named::kept;
-use strokes::Stand;
+use stores::RawColumns;
+use strokes::{Stand, StoreColumns};
 
 // The highest and the lowest of the bars that were seen, if any was.
 #[derive(Clone, Copy)]
@@ -28,21 +32,11 @@ pub struct Extremes {
     pub low: Bar,
 }
 
-// A fractal: its mark and its three bars.
-#[derive(Clone, Copy)]
-pub struct FractalBars {
-    pub mark: Mark,
-    pub left: Bar,
-    pub mid: Bar,
-    pub right: Bar,
-}
-
 // UBI of the source, its lists by their lengths: `bars` are the stand's unfinished bars and `raw` its kept raw
 // bars, both of which stand in the lent stores; `fractals` are those of the unfinished bars, of which `first` is
-// the first, and ubi_fxs lists them. Beside a refusal's number all is zero.
+// the first, and ubi_fxs lists them.
 #[derive(Clone, Copy)]
-pub struct UbiAnswer {
-    pub failed: u64,
+pub struct UbiSummary {
     pub direction: Direction,
     pub high: f64,
     pub low: f64,
@@ -98,78 +92,49 @@ fn see(e: Extremes, b: Bar) -> Extremes
 }
 
 // The raw bar of time t, if one of the first n has it.
-fn see_named(e: Extremes, rt: &[i64], ri: &[i32], rp: &[[f64; 6]], n: usize, t: i64) -> Extremes
-    requires { RisingFirst (raw_lent rt ri rp) n }
-    ensures { result ≡ see_at (take n (raw_bars (raw_seen rt ri rp))) e t }
+fn see_named(e: Extremes, raw: RawColumns<'_>, n: usize, t: i64) -> Extremes
+    requires { RisingFirst (raw_in raw) n }
+    ensures { result ≡ see_at (take n (raw_bars (raw_in raw.entry))) e t }
 {
-    let p = stores::find_time(rt, n, t);
+    let p = stores::find_time(raw.times, n, t);
     if p < n {
-        if t < rt[p] {
+        if t < raw.times[p] {
             return e;
         }
-        let b = stores::read_bar(rt, ri, rp, p);
+        let b = raw.bar(p);
         return see(e, b);
     }
     e
 }
 
-fn smaller(a: usize, b: usize) -> usize
-    ensures { result ≡ min a b }
-{
-    if a < b {
-        return a;
-    }
-    b
-}
-
 // The raw bars that the first `count` elements of a row name.
-fn see_row(
-    e: Extremes,
-    rt: &[i64],
-    ri: &[i32],
-    rp: &[[f64; 6]],
-    n: usize,
-    row: &[i64],
-    count: usize,
-) -> Extremes
-    requires { RisingFirst (raw_lent rt ri rp) n }
-    ensures { result ≡ foldl (see_at (take n (raw_bars (raw_seen rt ri rp)))) e (take count row.now) }
+fn see_row(e: Extremes, raw: RawColumns<'_>, n: usize, row: &[i64], count: usize) -> Extremes
+    requires { RisingFirst (raw_in raw) n }
+    ensures { result ≡ foldl (see_at (take n (raw_bars (raw_in raw.entry)))) e (take count row.now) }
 {
-    let k = smaller(count, row.len());
+    let k = count.min(row.len());
     let mut s = e;
-    let mut j: usize = 0;
-    while j < k {
+    for j in 0..k {
         let t = row[j];
-        s = see_named(s, rt, ri, rp, n, t);
-        j += 1;
+        s = see_named(s, raw, n, t);
     }
     s
 }
 
 // The raw bars that the elements of these merged bars name.
-fn see_rows(
-    e: Extremes,
-    rt: &[i64],
-    ri: &[i32],
-    rp: &[[f64; 6]],
-    n: usize,
-    cs: &[usize],
-    es: &[[i64; 101]],
-) -> Extremes
-    requires fact_1 { RisingFirst (raw_lent rt ri rp) n }
+fn see_rows(e: Extremes, raw: RawColumns<'_>, n: usize, cs: &[usize], es: &[[i64; 101]]) -> Extremes
+    requires fact_1 { RisingFirst (raw_in raw) n }
     requires fact_2 { (length cs.now ≡ length es.now) × (length cs.now ≤ 65536) }
-    ensures { result ≡ foldl (see_at (take n (raw_bars (raw_seen rt ri rp)))) e (join (zip_with take cs.now es.now)) }
+    ensures { result ≡ foldl (see_at (take n (raw_bars (raw_in raw.entry)))) e (join (zip_with take cs.now es.now)) }
 {
     let mut s = e;
-    let mut i: usize = 0;
-    while i < cs.len() {
-        s = see_row(s, rt, ri, rp, n, &es[i], cs[i]);
-        i += 1;
+    for i in 0..cs.len() {
+        s = see_row(s, raw, n, &es[i], cs[i]);
     }
     s
 }
 
-// ---- what stands for a bar, and for a summary, where there is none
+// ---- what stands for a bar where there is none
 
 fn no_bar() -> Bar
     ensures { result ≡ no_bar }
@@ -197,42 +162,16 @@ fn none_seen() -> Extremes
     }
 }
 
-fn refused(failed: u64) -> UbiAnswer
-    ensures { result ≡ no_ubi failed }
-{
-    let b = no_bar();
-    let mark = Mark::D;
-    let first = FractalBars {
-        mark,
-        left: b,
-        mid: b,
-        right: b,
-    };
-    let direction = Direction::Up;
-    UbiAnswer {
-        failed,
-        direction,
-        high: 0.0,
-        low: 0.0,
-        highBar: b,
-        lowBar: b,
-        bars: 0,
-        raw: 0,
-        fractals: 0,
-        first,
-    }
-}
-
 // ---- the first fractal
 
 // The fractal of this mark whose first bar stands at place `at`.
-fn fractal_at(ut: &[i64], ui: &[i32], up: &[[f64; 6]], at: usize, mark: Mark) -> FractalBars
-    requires { RoomRaw (raw_lent ut ui up) (at + 3) }
-    ensures { result ≡ three_bars mark (bar_at (raw_seen ut ui up) at) (bar_at (raw_seen ut ui up) (at + 1)) (bar_at (raw_seen ut ui up) (at + 2)) }
+fn fractal_at(bars: RawColumns<'_>, at: usize, mark: Mark) -> FractalBars
+    requires { RoomRaw (raw_in bars) (at + 3) }
+    ensures { result ≡ three_bars mark (bar_at (raw_in bars.entry) at) (bar_at (raw_in bars.entry) (at + 1)) (bar_at (raw_in bars.entry) (at + 2)) }
 {
-    let left = stores::read_bar(ut, ui, up, at);
-    let mid = stores::read_bar(ut, ui, up, at + 1);
-    let right = stores::read_bar(ut, ui, up, at + 2);
+    let left = bars.bar(at);
+    let mid = bars.bar(at + 1);
+    let right = bars.bar(at + 2);
     FractalBars {
         mark,
         left,
@@ -261,11 +200,10 @@ fn summed(
     raw: usize,
     fractals: usize,
     first: FractalBars,
-) -> UbiAnswer
+) -> UbiSummary
     ensures { result ≡ ubi_of direction h l bars raw fractals first }
 {
-    UbiAnswer {
-        failed: 0,
+    UbiSummary {
         direction,
         high: h.high,
         low: l.low,
@@ -279,83 +217,47 @@ fn summed(
 }
 
 // The summary of a sound stand, or the refusal of question 15.
-fn summary(
-    stand: Stand,
-    rt: &[i64],
-    ri: &[i32],
-    rp: &[[f64; 6]],
-    ut: &[i64],
-    ui: &[i32],
-    up: &[[f64; 6]],
-    uc: &[usize],
-    ue: &[[i64; 101]],
-    st: &[i64],
-    si: &[i32],
-    sp: &[[f64; 6]],
-    sc: &[usize],
-    se: &[[i64; 101]],
-    fs: &[[i64; 6]],
-    fp: &[[f64; 18]],
-) -> UbiAnswer
-    requires { IsSound stand (stores_lent rt ri rp ut ui up uc ue st si sp sc se fs fp) }
-    ensures { result ≡ ubi_given (get_ubi (state_of stand (stores_seen rt ri rp ut ui up uc ue st si sp sc se fs fp)).raw (state_of stand (stores_seen rt ri rp ut ui up uc ue st si sp sc se fs fp)).unfinished (state_of stand (stores_seen rt ri rp ut ui up uc ue st si sp sc se fs fp)).strokes) }
+fn summary(stand: Stand, stores: StoreColumns<'_>) -> Result<UbiSummary, Question>
+    requires { IsSound stand (stores_in stores) }
+    ensures { result ≡ ubi_given (get_ubi (state_of stand (stores_in stores.entry)).raw (state_of stand (stores_in stores.entry)).unfinished (state_of stand (stores_in stores.entry)).strokes) }
 {
     let k = kept(stand);
     let n = stand.raw;
     let m = stand.unfinished;
     if k == 0 {
-        return refused(15);
+        return Err(Question::Summary);
     }
+    let bars = stores.unfinished;
     let none = none_seen();
-    let e = see_rows(none, rt, ri, rp, n, &uc[..m], &ue[..m]);
+    let e = see_rows(none, stores.raw, n, &bars.counts[..m], &bars.elements[..m]);
     if !e.seen {
-        return refused(15);
+        return Err(Question::Summary);
     }
-    let s = check_bi::scan_from(ut, up, ut, up, m, 0, 0, 0);
+    let view = View {
+        times: &bars.times[..m],
+        prices: &bars.prices[..m],
+        tail_times: &[],
+        tail_prices: &[],
+    };
+    let Some(s) = view.scan(0, 0) else {
+        return Err(Question::Summary);
+    };
     let count = s.count;
-    if count == 0 {
-        return refused(15);
-    }
-    let b = strokes::last_stroke(stand, st, fp);
+    let b = strokes::last_stroke(stand, stores.strokes.times, stores.fractals.prices);
     let d = b.direction;
     let f = s.start;
-    let at = f.place;
-    let mark = f.mark;
-    let first = fractal_at(ut, ui, up, at, mark);
+    let first = fractal_at(bars.bars(), f.place, f.mark);
     let direction = turned(d);
-    let h = e.high;
-    let l = e.low;
-    summed(direction, h, l, m, n, count, first)
+    let u = summed(direction, e.high, e.low, m, n, count, first);
+    Ok(u)
 }
 
 // Of any stand. Of UBI it gives the direction, the high and the low with their bars, the first fractal, and how long the
 // three lists are. The lists themselves: the unfinished and the raw bars are in the lent stores, the fractals in ubi_fxs.
-pub fn get_ubi(
-    stand: Stand,
-    rt: &[i64],
-    ri: &[i32],
-    rp: &[[f64; 6]],
-    ut: &[i64],
-    ui: &[i32],
-    up: &[[f64; 6]],
-    uc: &[usize],
-    ue: &[[i64; 101]],
-    st: &[i64],
-    si: &[i32],
-    sp: &[[f64; 6]],
-    sc: &[usize],
-    se: &[[i64; 101]],
-    fs: &[[i64; 6]],
-    fp: &[[f64; 18]],
-) -> UbiAnswer
-    ensures { result ≡ ubi_answer stand (stores_seen rt ri rp ut ui up uc ue st si sp sc se fs fp) }
+// Questions 4 and 15.
+pub fn get_ubi(stand: Stand, stores: StoreColumns<'_>) -> Result<UbiSummary, Question>
+    ensures { result ≡ ubi_answer stand (stores_in stores.entry) }
 {
-    if !question4::is_sound(
-        stand, rt, ri, rp, ut, ui, up, uc, ue, st, si, sp, sc, se, fs, fp,
-    ) {
-        return refused(4);
-    }
-    summary(
-        stand, rt, ri, rp, ut, ui, up, uc, ue, st, si, sp, sc, se, fs, fp,
-    )
+    ask_sound(stand, stores)?;
+    summary(stand, stores)
 }

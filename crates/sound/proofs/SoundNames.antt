@@ -6,22 +6,27 @@ use mathlib.Core.Bool.{Bool, true, false, ◌&&◌, ◌||◌}
 use mathlib.Core.List.{List, [], ◌∷◌}
 use mathlib.Core.Option.{some}
 use mathlib.Core.Logic.{◌⊎◌, inl, inr}
-use lib.ListN.{length, take, drop, get_or, length-take, drop_of_length-le}
-use lib.Seq.{drop-cons, get_or-take, length-take-le, take_all}
+use lib.ListN.{length, take, drop, get_or, length-take, length-drop, drop_of_length-le}
+use Rattle.std.specs.List.{starts_with}
+use Rattle.std.specs.Ordering.{int_eq}
+use Rattle.std.specs.Cmp.Rules.{signed_items}
+use lib.Seq.{drop-cons, get_or-drop, get_or-take, length-take-le, take_all}
 use lib.IntN.{ℤ, pos}
 use lib.Signed.{lt_z, le_z}
-use lib.Dec.{T, leb, ltb, leb→le, le→leb, leb-suc-suc, T_not, ltb→lt}
+use lib.Dec.{T, eqb, eqb→eq, leb, ltb, leb→le, le→leb, leb-suc-suc, T_not, ltb→lt}
 use lib.Ieee.Fits.{and_l, and_r}
-use borrow.Author.Tests.{lt-ltb, le-leb, lt-leb}
+use borrow.Author.Tests.{eq-eqb, le-leb, lt-leb}
 use Rattle.arith.proofs.FloatOrder.{lt-or_ge, or_l, or_r}
 use Rattle.bars.specs.Lists.{every, some_of, last}
 use Rattle.stores.specs.Stores.{zip_with}
 use Rattle.stores.specs.Code.StoreRows.{rising, place_of, next_if}
 use Rattle.stores.proofs.Searching.{place_at, rising-tail}
 use Rattle.stores.proofs.Columns.{zip-at, zip_length}
-use Rattle.bars.proofs.Times.{lt_trans, lt_not_le, le_antisym, not-lt-le}
-use Rattle.sound.proofs.SoundScans.{every-turn, every-end}
-use Rattle.arith.proofs.Tests.{and_assoc, and_true, and_false, yes, no, holds, fails, pair, same}
+use Rattle.bars.proofs.Times.{le_refl, lt_trans, lt_not_le, le_antisym, not-lt-le}
+use mir.Syntax.{w64}
+use mir.Val.{SFits, to_z, of_z}
+use mir.ValLaws.{to_z-of_z}
+use Rattle.arith.proofs.Tests.{and_false, yes, no, holds, fails, pair, same}
 use Rattle.machine.specs.Soundness.{same_time, ends_on}
 use Rattle.strokes.specs.StateRead.{total}
 use Rattle.sound.specs.Code.SoundStand.{at_place, is_time, named_rows, ends_in, newest_row}
@@ -31,6 +36,16 @@ use Rattle.sound.specs.Code.SoundStand.{at_place, is_time, named_rows, ends_in, 
 same-time : (t u : ℤ) → T (same_time t u) → t ≡ u
 unfolding same_time
 same-time t u h = le_antisym t u (and_l (le_z t u) (le_z u t) h) (and_r (le_z t u) (le_z u t) h)
+
+-- two times in 64 bits are the same where their bits are
+pub same_bits : (t u : ℤ) → SFits w64 t → SFits w64 u → eqb (of_z w64 t) (of_z w64 u) ≡ same_time t u
+unfolding same_time
+same_bits t u f g =
+    same (eqb (of_z w64 t) (of_z w64 u)) (same_time t u)
+    (λ h.
+    let e : t ≡ u = sym (to_z-of_z w64 t f) ∙ ap (to_z w64) (eqb→eq (of_z w64 t) (of_z w64 u) h) ∙ to_z-of_z w64 u g in
+    subst (λ (z : ℤ). T (same_time t z)) e (pair (le_z t t) (le_z t t) (le_refl t) (le_refl t)))
+    (λ h. subst (λ (z : ℤ). T (eqb (of_z w64 t) (of_z w64 z))) (same-time t u h) (holds (eq-eqb (of_z w64 t) (of_z w64 t) refl)))
 
 later_differs : (t u : ℤ) → lt_z t u ≡ true → same_time t u ≡ false
 unfolding same_time
@@ -101,25 +116,9 @@ place-named (a ∷ l) t r = by (place-named l t (rising-tail a l r)) (lt_z a t) 
 
 -- ---- the elements of a row
 
-module _ (ts row : List ℤ) (count j : ℕ) (r : T (rising ts)) (h : j < min count (length row)) where
-  read : get_or (take count row) j (pos 0) ≡ get_or row j (pos 0)
-  read = get_or-take count row j (pos 0) (omega arith)
-
-  inside : j < length (take count row)
-  inside = omega (arith, length-take count row)
-
-  -- a turn: p is the place that was found, x the test of what stands there
-  pub row-turn : (p : ℕ) (ok ok' x v : Bool) → p ≡ place_of (get_or row j (pos 0)) ts → x ≡ at_place ts p (get_or row j (pos 0)) → ok' ≡ (ok && x)
-      → (ok && every (is_time ts) (drop j (take count row))) ≡ v → (ok' && every (is_time ts) (drop (j + 1) (take count row))) ≡ v
-  row-turn p ok ok' x v e f g k =
-      every-turn (is_time ts) (take count row) j (pos 0) ok ok' x v inside
-      (f ∙ ap (λ (q : ℕ). at_place ts q (get_or row j (pos 0))) e ∙ place-named ts (get_or row j (pos 0)) r ∙ ap (is_time ts) (sym read)) g k
-
-row-short : {A : Type 0} (row : List A) (count j : ℕ) → min count (length row) ≤ j → length (take count row) ≤ j
-row-short row count j h = omega (arith, length-take count row)
-
-pub row-end : (ts row : List ℤ) (count j : ℕ) (ok v : Bool) → min count (length row) ≤ j → (ok && every (is_time ts) (drop j (take count row))) ≡ v → ok ≡ v
-row-end ts row count j ok v h k = every-end (is_time ts) (take count row) j ok v (row-short row count j h) k
+-- what stands at the place of t is t where t is one of the times
+pub named_at : (ts : List ℤ) (t : ℤ) (p : ℕ) (x : Bool) → T (rising ts) → p ≡ place_of t ts → x ≡ at_place ts p t → x ≡ is_time ts t
+named_at ts t p x r e f = f ∙ ap (λ (q : ℕ). at_place ts q t) e ∙ place-named ts t r
 
 drop_all : {A : Type 0} (l : List A) (j : ℕ) → length l ≤ j → drop j l ≡ []
 drop_all l j h = drop_of_length-le l h
@@ -144,53 +143,55 @@ time-at [] p t h k = absurd (omega arith)
 time-at (a ∷ ts) zero t h k = or_l (same_time a t) (some_of (λ u. same_time u t) ts) k
 time-at (a ∷ ts) (suc p) t h k = or_r (same_time a t) (some_of (λ u. same_time u t) ts) (time-at ts p t (omega arith) k)
 
-one_more : {A : Type 0} (p : A → Bool) (v : List A) (j : ℕ) (z : A) → j < length v → T (every p (take j v)) → T (p (get_or v j z)) → T (every p (take (suc j) v))
+every_by : {A : Type 0} (p : A → Bool) (v : List A) (z : A) → ((i : ℕ) → i < length v → T (p (get_or v i z))) → T (every p v)
 unfolding every
-one_more p [] j z h k m = absurd (omega arith)
-one_more p (a ∷ v) zero z h k m = pair (p a) true m tt
-one_more p (a ∷ v) (suc j) z h k m =
-    pair (p a) (every p (take (suc j) v)) (and_l (p a) (every p (take j v)) k) (one_more p v j z (omega arith) (and_r (p a) (every p (take j v)) k) m)
+every_by p [] z h = tt
+every_by p (a ∷ v) z h = pair (p a) (every p v) (h 0 (omega arith)) (every_by p v z (λ i k. h (suc i) (omega arith)))
 
-pub follow_start : (ts row : List ℤ) (ok : Bool) → T ok → T (every (is_time ts) (take 0 row))
-unfolding every
-follow_start ts row ok h = tt
+-- so are the times from a place on
+part_named : (ts : List ℤ) (from m n : ℕ) → T (every (is_time ts) (take n (take m (drop from ts))))
+unfolding same_time
+part_named ts from m n =
+    let v = take n (take m (drop from ts)) in
+    every_by (is_time ts) v (pos 0)
+    (λ i h.
+    let k : i < min n (min m (length ts - from)) = omega (arith, length-take n (take m (drop from ts)), length-take m (drop from ts), length-drop from ts) in
+    let e : get_or v i (pos 0) ≡ get_or ts (from + i) (pos 0) = get_or-take n (take m (drop from ts)) i (pos 0) (omega arith) ∙ get_or-take m (drop from ts) i (pos 0) (omega arith) ∙ get_or-drop from ts i (pos 0) in
+    let t = get_or v i (pos 0) in
+    time-at ts (from + i) t (omega arith)
+    (subst (λ (u : ℤ). T (same_time u t)) e (pair (le_z t t) (le_z t t) (le_refl t) (le_refl t))))
 
-pub follow_turn : (ts row : List ℤ) (j p : ℕ) (ok ok' x : Bool) → j < length row → p < length ts → x ≡ same_time (get_or ts p (pos 0)) (get_or row j (pos 0)) → ok' ≡ (ok && x)
-    → (T ok → T (every (is_time ts) (take j row))) → T ok' → T (every (is_time ts) (take (j + 1) row))
-follow_turn ts row j p ok ok' x h k e f g t =
-    let c : suc j ≡ j + 1 = omega arith in
-    let b = subst T f t in
-    let m = time-at ts p (get_or row j (pos 0)) k (subst T e (and_r ok x b)) in
-    subst (λ (n : ℕ). T (every (is_time ts) (take n row))) c (one_more (is_time ts) row j (pos 0) h (g (and_l ok x b)) m)
-
-pub follow_end : (ts row : List ℤ) (n j : ℕ) (ok : Bool) → j ≤ n → n ≤ j → (T ok → T (every (is_time ts) (take j row))) → T ok → T (every (is_time ts) (take n row))
-follow_end ts row n j ok h k f t =
-    let e : j ≡ n = omega arith in
-    subst (λ (m : ℕ). T (every (is_time ts) (take m row))) e (f t)
-
-pub row_follows : (ts row : List ℤ) (count n : ℕ) (x : Bool) → n ≡ min count (length row) → (T x → T (every (is_time ts) (take n row))) → x ≡ true
+-- elements that are the raw times from a place on
+pub followed : (ts row : List ℤ) (count n from : ℕ) → n ≡ min count (length row) → true ≡ starts_with int_eq (take (length ts - from) (drop from ts)) (take n row)
     → true ≡ every (is_time ts) (take count row)
-row_follows ts row count n x e f g = row-each ts row count n true e (sym (yes (every (is_time ts) (take n row)) (f (holds g))))
+followed ts row count n from e h =
+    let v = take n row in
+    let part = take (length v) (take (length ts - from) (drop from ts)) in
+    let is : v ≡ part = (signed_items v part).0 (sym h) in
+    row-each ts row count n true e (sym (yes (every (is_time ts) v) (subst (λ (l : List ℤ). T (every (is_time ts) l)) (sym is) (part_named ts from (length ts - from) (length v)))))
 
 -- ---- the elements of all rows
 
-pub rows-turn : (ts : List ℤ) (cs : List ℕ) (es : List (List ℤ)) (i : ℕ) (ok ok' x v : Bool) → i < length cs → length cs ≡ length es
-    → x ≡ every (is_time ts) (take (get_or cs i 0) (get_or es i [])) → ok' ≡ (ok && x)
-    → (ok && named_rows ts (drop i cs) (drop i es)) ≡ v → (ok' && named_rows ts (drop (i + 1) cs) (drop (i + 1) es)) ≡ v
-unfolding named_rows zip_with every
-rows-turn ts cs es i ok ok' x v h q e f g =
-    let c : i + 1 ≡ suc i = omega arith in
-    let k : i < length es = omega arith in
-    let d : named_rows ts (drop i cs) (drop i es) ≡ (every (is_time ts) (take (get_or cs i 0) (get_or es i [])) && named_rows ts (drop (i + 1) cs) (drop (i + 1) es)) =
-    rw (c, drop-cons cs i 0 h, drop-cons es i [] k) in
-    ap (λ (y : Bool). y && named_rows ts (drop (i + 1) cs) (drop (i + 1) es)) (f ∙ ap (λ (y : Bool). ok && y) e)
-    ∙ sym (and_assoc ok (every (is_time ts) (take (get_or cs i 0) (get_or es i []))) (named_rows ts (drop (i + 1) cs) (drop (i + 1) es)))
-    ∙ sym (ap (λ (y : Bool). ok && y) d) ∙ g
+module _ (ts : List ℤ) (cs : List ℕ) (es : List (List ℤ)) (i : ℕ) (x v : Bool) (h : i < length cs) (q : length cs ≡ length es) (e : x ≡ every (is_time ts) (take (get_or cs i 0) (get_or es i [])))
+    (g : named_rows ts (drop i cs) (drop i es) ≡ v) where
+  row_first : (x && named_rows ts (drop (i + 1) cs) (drop (i + 1) es)) ≡ v
+  unfolding named_rows zip_with every
+  row_first =
+      let c : i + 1 ≡ suc i = omega arith in
+      let k : i < length es = omega arith in
+      let d : named_rows ts (drop i cs) (drop i es) ≡ (every (is_time ts) (take (get_or cs i 0) (get_or es i [])) && named_rows ts (drop (i + 1) cs) (drop (i + 1) es)) =
+      rw (c, drop-cons cs i 0 h, drop-cons es i [] k) in
+      ap (λ (y : Bool). y && named_rows ts (drop (i + 1) cs) (drop (i + 1) es)) e ∙ sym d ∙ g
 
-pub rows_end : (ts : List ℤ) (cs : List ℕ) (es : List (List ℤ)) (i : ℕ) (ok v : Bool) → length cs ≤ i → (ok && named_rows ts (drop i cs) (drop i es)) ≡ v → ok ≡ v
+  pub rows_on : x ≡ true → named_rows ts (drop (i + 1) cs) (drop (i + 1) es) ≡ v
+  rows_on t = sym (ap (λ (y : Bool). y && named_rows ts (drop (i + 1) cs) (drop (i + 1) es)) t) ∙ row_first
+
+  pub rows_stop : x ≡ false → false ≡ v
+  rows_stop t = sym (ap (λ (y : Bool). y && named_rows ts (drop (i + 1) cs) (drop (i + 1) es)) t) ∙ row_first
+
+pub rows_end : (ts : List ℤ) (cs : List ℕ) (es : List (List ℤ)) (i : ℕ) (v : Bool) → length cs ≤ i → named_rows ts (drop i cs) (drop i es) ≡ v → true ≡ v
 unfolding named_rows zip_with every
-rows_end ts cs es i ok v h g =
-    sym (and_true ok) ∙ sym (ap (λ (c : List ℕ). ok && every (every (is_time ts)) (zip_with take c (drop i es))) (drop_all cs i h)) ∙ g
+rows_end ts cs es i v h g = sym (ap (λ (c : List ℕ). every (every (is_time ts)) (zip_with take c (drop i es))) (drop_all cs i h)) ∙ g
 
 -- ---- the newest raw time
 
@@ -210,13 +211,13 @@ last_none t row count n e z = rw (none_left (take count row) (omega (arith, leng
     none_left [] h = refl
     none_left (a ∷ l) h = absurd (omega arith)
 
-pub last_some : (ts row : List ℤ) (p count n : ℕ) (x : Bool) → n ≡ min count (length row) → (n ≡ 0 → ⊥) → p < length ts
-    → x ≡ at_place ts p (get_or row (n - 1) (pos 0)) → x ≡ ends_on (get_or ts p (pos 0)) (last (take count row))
-unfolding ends_on at_place
-last_some ts row p count n x e z h f =
+pub last_some : (t : ℤ) (row : List ℤ) (count n : ℕ) (x : Bool) → n ≡ min count (length row) → (n ≡ 0 → ⊥) → x ≡ same_time t (get_or row (n - 1) (pos 0))
+    → x ≡ ends_on t (last (take count row))
+unfolding ends_on
+last_some t row count n x e z f =
     let k : length (take count row) ≡ n = omega (arith, length-take count row) in
     let g : get_or (take count row) (n - 1) (pos 0) ≡ get_or row (n - 1) (pos 0) = get_or-take count row (n - 1) (pos 0) (omega (arith, z)) in
-    rw (last-at (take count row) (pos 0) (omega (arith, z)), k, g) (f ∙ ap (λ (b : Bool). b && same_time (get_or ts p (pos 0)) (get_or row (n - 1) (pos 0))) (lt-ltb p (length ts) h))
+    rw (last-at (take count row) (pos 0) (omega (arith, z)), k, g) f
 
 pub newest-none : (ts : List ℤ) (cs : List ℕ) (es : List (List ℤ)) → length ts ≡ 0 → true ≡ newest_row ts cs es
 unfolding newest_row ends_in last
@@ -249,14 +250,18 @@ module _ (bars : List ℕ) (n i : ℕ) (len : n ≤ length bars) (h : i < n) whe
       let k : i < length (take n bars) = omega (arith, length-take-le n bars len) in
       rw (c, drop-cons (take n bars) i 0 k, get_or-take n bars i 0 h)
 
-  pub total-turn : (left : ℕ) (v : Bool) → get_or bars i 0 ≤ left → leb (total (drop i (take n bars))) left ≡ v
-      → leb (total (drop (i + 1) (take n bars))) (left - get_or bars i 0) ≡ v
-  total-turn left v k e = sym (leb_left (get_or bars i 0) (total (drop (i + 1) (take n bars))) left k) ∙ ap (λ (t : ℕ). leb t left) (sym next-total) ∙ e
+-- the same of a whole list
+module _ (l : List ℕ) (i : ℕ) (h : i < length l) where
+  total_next : total (drop i l) ≡ get_or l i 0 + total (drop (i + 1) l)
+  unfolding total
+  total_next = let c : i + 1 ≡ suc i = omega arith in rw (c, drop-cons l i 0 h)
 
-  pub total_stop : (left : ℕ) (v : Bool) → left < get_or bars i 0 → leb (total (drop i (take n bars))) left ≡ v → false ≡ v
-  total_stop left v k e = sym (lt-leb (total (drop i (take n bars))) left (omega (arith, next-total))) ∙ e
+  pub total-turn : (left : ℕ) (v : Bool) → get_or l i 0 ≤ left → leb (total (drop i l)) left ≡ v → leb (total (drop (i + 1) l)) (left - get_or l i 0) ≡ v
+  total-turn left v k e = sym (leb_left (get_or l i 0) (total (drop (i + 1) l)) left k) ∙ ap (λ (t : ℕ). leb t left) (sym total_next) ∙ e
 
-pub total-end : (bars : List ℕ) (n i left : ℕ) (v : Bool) → n ≤ length bars → n ≤ i → leb (total (drop i (take n bars))) left ≡ v → true ≡ v
+  pub total_stop : (left : ℕ) (v : Bool) → left < get_or l i 0 → leb (total (drop i l)) left ≡ v → false ≡ v
+  total_stop left v k e = sym (lt-leb (total (drop i l)) left (omega (arith, total_next))) ∙ e
+
+pub total-end : (l : List ℕ) (i left : ℕ) (v : Bool) → length l ≤ i → leb (total (drop i l)) left ≡ v → true ≡ v
 unfolding total
-total-end bars n i left v h k e =
-    sym (le-leb 0 left (omega arith)) ∙ ap (λ (l : List ℕ). leb (total l) left) (sym (drop_all (take n bars) i (omega (arith, length-take-le n bars h)))) ∙ e
+total-end l i left v k e = sym (le-leb 0 left (omega arith)) ∙ ap (λ (x : List ℕ). leb (total x) left) (sym (drop_all l i k)) ∙ e

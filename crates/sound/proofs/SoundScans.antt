@@ -3,16 +3,18 @@ use Prim.Native.Nat.{ℕ, zero, suc, ◌+◌, ◌-◌, ◌*◌, ◌/◌, ◌≤�
 use borrow.Author.Tests.{le-leb}
 use native.Mathlib.Omega.{arith}
 use mathlib.Core.Path.{◌≡◌, refl, ap, sym, ◌∙◌}
-use mathlib.Core.Bool.{Bool, true, false, ◌&&◌}
+use mathlib.Core.Bool.{Bool, true, false, not, beq, ◌&&◌}
 use mathlib.Core.List.{List, [], ◌∷◌, map}
-use lib.ListN.{length, drop, get_or, length-drop, length-map, get_or-map}
+use lib.ListN.{length, drop, get_or, length-drop}
 use lib.Seq.{drop-cons}
 use lib.IntN.{ℤ, pos}
 use lib.Signed.{lt_z, le_z}
 use lib.Dec.{T, T_not}
-use lib.Ieee.{Float}
+use lib.Ieee.{Float, nan, inf, fin, eq, is_nan}
 use lib.Ieee.Fits.{and_l, and_r}
-use Rattle.arith.proofs.Tests.{and_assoc, and_true, yes, holds, fails, pair, same}
+use Rattle.arith.proofs.Tests.{and_false, and_assoc, and_true, yes, holds, fails, pair, same}
+use Rattle.std.specs.List.{list_all, AllAdjacentBelow, IsAllAdjacentAnswer}
+use Rattle.arith.proofs.FloatOrder.{eq_refl}
 use Rattle.bars.specs.Lists.{every}
 use Rattle.stores.specs.Code.StoreRows.{rising}
 use Rattle.bars.specs.Questions.{first_time, last_time}
@@ -56,6 +58,12 @@ module _ {A : Type 0} (p : A → Bool) where
   every-at (a ∷ v) zero z h k = and_l (p a) (every p v) h
   every-at (a ∷ v) (suc i) z h k = every-at v i z (and_r (p a) (every p v) h) (omega arith)
 
+-- the library's word for it
+pub all_every : {A : Type 0} (p : A → Bool) (l : List A) → list_all p l ≡ every p l
+unfolding every
+all_every p [] = refl
+all_every p (a ∷ l) = ap (p a &&◌) (all_every p l)
+
 -- a scan that is asked in two ways: by a test that only lets through what passes, and where that fails by the whole test
 module _ {A : Type 0} (f : Bool → A → Bool) (p : A → Bool) (above : (x : A) → T (f false x) → T (p x)) (any : (x : A) → f true x ≡ p x) where
   every_above : (l : List A) → T (every (f false) l) → T (every p l)
@@ -74,39 +82,33 @@ module _ {A : Type 0} (f : Bool → A → Bool) (p : A → Bool) (above : (x : A
   pub any-all : (l : List A) (r : Bool) → r ≡ every (f true) l → r ≡ every p l
   any-all l r e = e ∙ every_any l
 
+-- ---- neighbours
+
+-- what the library says of all neighbours, as a recursion on the list
+module _ {A : Type 0} (t : A → A → Bool) (f : List A → Bool) (none : f [] ≡ true) (one : (a : A) → f (a ∷ []) ≡ true) (more : (a b : A) (l : List A) → f (a ∷ b ∷ l) ≡ (t a b && f (b ∷ l))) where
+  on : (a b : A) (l : List A) (k : ℕ) (d : A) → t (get_or (a ∷ b ∷ l) (suc k) d) (get_or (a ∷ b ∷ l) (suc k + 1) d) ≡ t (get_or (b ∷ l) k d) (get_or (b ∷ l) (k + 1) d)
+  on a b l k d = let e : suc k + 1 ≡ suc (k + 1) = omega arith in ap (λ (m : ℕ). t (get_or (b ∷ l) k d) (get_or (a ∷ b ∷ l) m d)) e
+
+  each_neighbour : (l : List A) → AllAdjacentBelow (λ x y. true ≡ t x y) l (length l) → true ≡ f l
+  each_neighbour [] h = sym none
+  each_neighbour (a ∷ []) h = sym (one a)
+  each_neighbour (a ∷ b ∷ l) h = (λ i. h 0 a (omega arith) i && each_neighbour (b ∷ l) (λ k d g. h (suc k) d (omega (arith, g)) ∙ on a b l k d) i) ∙ sym (more a b l)
+
+  some_neighbour : (l : List A) (k : ℕ) → k + 1 < length l → ((d : A) → false ≡ t (get_or l k d) (get_or l (k + 1) d)) → false ≡ f l
+  some_neighbour [] k h e = absurd (omega arith)
+  some_neighbour (a ∷ []) k h e = absurd (omega arith)
+  some_neighbour (a ∷ b ∷ l) zero h e = (λ i. e a i && f (b ∷ l)) ∙ sym (more a b l)
+  some_neighbour (a ∷ b ∷ l) (suc k) h e = sym (and_false (t a b)) ∙ ap (t a b &&◌) (some_neighbour (b ∷ l) k (omega arith) (λ d. e d ∙ on a b l k d)) ∙ sym (more a b l)
+
+  pub neighbours : (l : List A) (r : Bool) → IsAllAdjacentAnswer (λ x y b. b ≡ t x y) l r → r ≡ f l
+  neighbours l true h = each_neighbour l h
+  neighbours l false h = some_neighbour l h.0 h.1 h.2
+
 -- ---- times that rise
 
-rising-at : (v : List ℤ) (i : ℕ) → i + 1 < length v → rising (drop i v) ≡ (lt_z (get_or v i (pos 0)) (get_or v (i + 1) (pos 0)) && rising (drop (i + 1) v))
+pub rising-neighbours : (l : List ℤ) (r : Bool) → IsAllAdjacentAnswer (λ x y b. b ≡ lt_z x y) l r → r ≡ rising l
 unfolding rising
-rising-at v i h =
-    let a : i < length v = omega arith in
-    let b : suc i < length v = omega arith in
-    let c : i + 1 ≡ suc i = omega arith in
-    rw (c, drop-cons v i (pos 0) a, drop-cons v (suc i) (pos 0) b)
-
-pub rise-turn : (v : List ℤ) (i : ℕ) (ok ok' x r : Bool) → i + 1 < length v → x ≡ lt_z (get_or v i (pos 0)) (get_or v (i + 1) (pos 0)) → ok' ≡ (ok && x)
-    → (ok && rising (drop i v)) ≡ r → (ok' && rising (drop (i + 1) v)) ≡ r
-rise-turn v i ok ok' x r h e f g =
-    ap (λ (y : Bool). y && rising (drop (i + 1) v)) (f ∙ ap (λ (y : Bool). ok && y) e)
-    ∙ sym (and_assoc ok (lt_z (get_or v i (pos 0)) (get_or v (i + 1) (pos 0))) (rising (drop (i + 1) v)))
-    ∙ sym (ap (λ (y : Bool). ok && y) (rising-at v i h)) ∙ g
-
--- a turn that goes on only where the pair at i rises
-module _ (v : List ℤ) (i : ℕ) (x r : Bool) (h : i + 1 < length v) (e : x ≡ lt_z (get_or v i (pos 0)) (get_or v (i + 1) (pos 0))) (g : rising (drop i v) ≡ r) where
-  by_pair : (x && rising (drop (i + 1) v)) ≡ r
-  by_pair = ap (λ (y : Bool). y && rising (drop (i + 1) v)) e ∙ sym (rising-at v i h) ∙ g
-
-  pub rise_on : x ≡ true → rising (drop (i + 1) v) ≡ r
-  rise_on t = sym (ap (λ (y : Bool). y && rising (drop (i + 1) v)) t) ∙ by_pair
-
-  pub rise_stop : x ≡ false → false ≡ r
-  rise_stop t = sym (ap (λ (y : Bool). y && rising (drop (i + 1) v)) t) ∙ by_pair
-
-rise-short : (l : List ℤ) → length l < 2 → rising l ≡ true
-unfolding rising
-rise-short [] h = refl
-rise-short (a ∷ []) h = refl
-rise-short (a ∷ b ∷ l) h = absurd (omega arith)
+rising-neighbours = neighbours lt_z rising refl (λ a. refl) (λ a b l. refl)
 
 every-later : (a b : ℤ) (l : List ℤ) → T (lt_z a b) → T (every (λ u. lt_z b u) l) → T (every (λ u. lt_z a u) l)
 unfolding every
@@ -128,36 +130,26 @@ rising-rises (a ∷ b ∷ l) h =
 pub rises-is : (l : List ℤ) → rising l ≡ rises l
 rises-is l = same (rising l) (rises l) (rising-rises l) (rises-rising l)
 
-pub rise-few : (l : List ℤ) → length l < 2 → true ≡ rises l
-rise-few l h = sym (rise-short l h) ∙ rises-is l
-
-pub rise-end : (v : List ℤ) (i : ℕ) (ok r : Bool) → length v ≤ i + 1 → (ok && rising (drop i v)) ≡ r → ok ≡ r
-rise-end v i ok r h g = sym (and_true ok) ∙ sym (ap (λ (y : Bool). ok && y) (rise-short (drop i v) (omega (arith, length-drop i v)))) ∙ g
-
--- ---- neighbours in a column of rows
-
 -- the middle times, read off the rows
-pub middle-turn : (v : List (List ℤ)) (i : ℕ) (ok ok' x r : Bool) → i + 1 < length v
-    → x ≡ lt_z (get_or (get_or v i []) 1 (pos 0)) (get_or (get_or v (i + 1) []) 1 (pos 0)) → ok' ≡ (ok && x)
-    → (ok && rising (drop i (middle_times v))) ≡ r → (ok' && rising (drop (i + 1) (middle_times v))) ≡ r
-unfolding middle_times
-middle-turn v i ok ok' x r h e f g =
-    let k : length (map (λ t. get_or t 1 (pos 0)) v) ≡ length v = length-map v (λ t. get_or t 1 (pos 0)) in
-    rise-turn (map (λ t. get_or t 1 (pos 0)) v) i ok ok' x r (omega arith)
-    (e ∙ sym (λ j. lt_z (get_or-map (λ t. get_or t 1 (pos 0)) v i [] j) (get_or-map (λ t. get_or t 1 (pos 0)) v (i + 1) [] j))) f g
+middles-rising : List (List ℤ) → Bool
+middles-rising v = rising (middle_times v)
 
-pub middle-few : (v : List (List ℤ)) → length v < 2 → true ≡ rises (middle_times v)
-unfolding middle_times
-middle-few v h = rise-few (map (λ t. get_or t 1 (pos 0)) v) (omega (arith, length-map v (λ t. get_or t 1 (pos 0))))
+pub middle-neighbours : (v : List (List ℤ)) (r : Bool) → IsAllAdjacentAnswer (λ (x y : List ℤ) b. b ≡ lt_z (get_or x 1 (pos 0)) (get_or y 1 (pos 0))) v r → r ≡ rises (middle_times v)
+unfolding middles-rising middle_times rising
+middle-neighbours v r h = neighbours (λ x y. lt_z (get_or x 1 (pos 0)) (get_or y 1 (pos 0))) middles-rising refl (λ a. refl) (λ a b l. refl) v r h ∙ rises-is (middle_times v)
 
-pub middle-end : (v : List (List ℤ)) (i : ℕ) (ok r : Bool) → length v ≤ i + 1 → (ok && rising (drop i (middle_times v))) ≡ r → ok ≡ r
-unfolding middle_times
-middle-end v i ok r h g = rise-end (map (λ t. get_or t 1 (pos 0)) v) i ok r (omega (arith, length-map v (λ t. get_or t 1 (pos 0)))) g
+-- ---- marks
 
 -- marks that alternate: top is the mark before place i
-pub alternating-start : (v : List (List Float)) (top : Bool) → 0 < length v → top ≡ top_row (get_or v 0 []) → alternating (top ∷ map top_row (drop 1 v)) ≡ alternating (map top_row v)
-alternating-start [] top h e = absurd (omega arith)
-alternating-start (a ∷ v) top h e = ap (λ (t : Bool). alternating (t ∷ map top_row v)) e
+pub alternating-start : (v l : List (List Float)) (p : List Float) (top : Bool) → top ≡ top_row p → v ≡ p ∷ l → alternating (top ∷ map top_row l) ≡ alternating (map top_row v)
+alternating-start v l p top e h = ap (λ (t : Bool). alternating (t ∷ map top_row l)) e ∙ sym (ap (λ (w : List (List Float)). alternating (map top_row w)) h)
+
+pub unlike : (a b : Bool) → not (beq a b) ≡ differ a b
+unfolding differ
+unlike true true = refl
+unlike true false = refl
+unlike false true = refl
+unlike false false = refl
 
 pub alternating-turn : (v : List (List Float)) (i : ℕ) (top next ok ok' x r : Bool) → i < length v → next ≡ top_row (get_or v i []) → x ≡ differ top next → ok' ≡ (ok && x)
     → (ok && alternating (top ∷ map top_row (drop i v))) ≡ r → (ok' && alternating (next ∷ map top_row (drop (i + 1) v))) ≡ r
@@ -181,6 +173,14 @@ alternating-few (a ∷ l) h = sym (alternating-one (top_row a) l (omega arith))
 pub alternating-end : (v : List (List Float)) (i : ℕ) (top ok r : Bool) → length v ≤ i → (ok && alternating (top ∷ map top_row (drop i v))) ≡ r → ok ≡ r
 alternating-end v i top ok r h g =
     sym (and_true ok) ∙ sym (ap (λ (y : Bool). ok && y) (alternating-one top (drop i v) (omega (arith, length-drop i v)))) ∙ g
+
+-- a number is the same as itself
+pub no_nan : (x : Float) → not (is_nan x) ≡ eq x x
+unfolding eq is_nan
+no_nan nan = refl
+no_nan (inf true) = refl
+no_nan (inf false) = refl
+no_nan (fin s m e) = sym (yes (eq (fin s m e) (fin s m e)) (eq_refl (fin s m e) tt))
 
 -- both ends
 pub held_none : (v : List (List Float)) → length v ≡ 0 → false ≡ ends_held v
@@ -229,20 +229,27 @@ unfolding times_pass rises every
 times_pass-none [] h = refl
 times_pass-none (a ∷ l) h = absurd (omega arith)
 
-pub times-outside : (l : List ℤ) (i : ℕ) → i < length l → in_time (get_or l i (pos 0)) ≡ false → false ≡ times_pass l
+-- the first or the last is outside
+pub times-outside : (l : List ℤ) → 0 < length l → (in_time (get_or l 0 (pos 0)) && in_time (get_or l (length l - 1) (pos 0))) ≡ false → false ≡ times_pass l
 unfolding times_pass
-times-outside l i h e =
+times-outside l h e =
+    let a = in_time (get_or l 0 (pos 0)) in
+    let b = in_time (get_or l (length l - 1) (pos 0)) in
     same false (times_pass l) (λ w. absurd w)
-    (λ k. T_not (in_time (get_or l i (pos 0))) (fails e) (every-at in_time l i (pos 0) (and_r (rises l) (every in_time l) k) h))
+    (λ k.
+    let each = and_r (rises l) (every in_time l) k in
+    T_not (a && b) (fails e) (pair a b (every-at in_time l 0 (pos 0) each h) (every-at in_time l (length l - 1) (pos 0) each (omega (arith, h)))))
 
-pub times-inside : (l : List ℤ) → 0 < length l → in_time (get_or l 0 (pos 0)) ≡ true → in_time (get_or l (length l - 1) (pos 0)) ≡ true → rises l ≡ times_pass l
+pub times-inside : (l : List ℤ) → 0 < length l → (in_time (get_or l 0 (pos 0)) && in_time (get_or l (length l - 1) (pos 0))) ≡ true → rises l ≡ times_pass l
 unfolding times_pass rises
-times-inside [] h e f = absurd (omega arith)
-times-inside (a ∷ l) h e f =
+times-inside [] h e = absurd (omega arith)
+times-inside (a ∷ l) h e =
     let q : length (a ∷ l) - 1 ≡ length l = omega arith in
-    let g = rw q at f in
+    let g = rw q at e in
+    let first = in_time a in
+    let last = in_time (get_or (a ∷ l) (length l) (pos 0)) in
     same (rises (a ∷ l)) (rises (a ∷ l) && every in_time (a ∷ l))
     (λ r. pair (rises (a ∷ l)) (every in_time (a ∷ l)) r
-    (up_to a l (not-early a (holds e)) (and_l (every (λ u. lt_z a u) l) (rises l) r) (and_r (every (λ u. lt_z a u) l) (rises l) r)
-    (not_late (get_or (a ∷ l) (length l) (pos 0)) (holds g))))
+    (up_to a l (not-early a (and_l first last (holds g))) (and_l (every (λ u. lt_z a u) l) (rises l) r) (and_r (every (λ u. lt_z a u) l) (rises l) r)
+    (not_late (get_or (a ∷ l) (length l) (pos 0)) (and_r first last (holds g)))))
     (λ r. and_l (rises (a ∷ l)) (every in_time (a ∷ l)) r)

@@ -1,7 +1,7 @@
 -- What the walk over the kept strokes cites. Assumes nothing.
 use Prim.Native.Nat.{ℕ, suc, ◌+◌, ◌-◌, ◌≤◌, ◌<◌}
 use native.Mathlib.Omega.{arith}
-use mathlib.Core.Path.{◌≡◌, ap, sym, ◌∙◌, subst}
+use mathlib.Core.Path.{◌≡◌, refl, ap, sym, ◌∙◌, subst}
 use mathlib.Core.Bool.{Bool, true, false, ◌&&◌}
 use mathlib.Core.List.{List, []}
 use lib.ListN.{length, take, drop, get_or, length-drop, length-take, drop_of_length-le}
@@ -13,10 +13,10 @@ use Rattle.bars.specs.Lists.{every}
 use Rattle.stores.specs.Code.StoreRows.{rising}
 use Rattle.machine.specs.Soundness.{rises}
 use lib.Ieee.{Float}
-use borrow.Author.Tests.{lt-ltb, le-ltb}
+use borrow.Author.Tests.{lt-ltb, le-ltb, le-leb}
 use Rattle.strokes.specs.StateRead.{total}
 use Rattle.strokes.proofs.StoredStates.{rises-rising}
-use Rattle.sound.specs.Code.SoundStand.{in_time, times_pass, raw_row, raw_columns, stroke_columns, strokes_columns}
+use Rattle.sound.specs.Code.SoundStand.{merged_row, small_count, fractal_columns, named_rows, newest_row, skipped, unfinished_columns, in_time, times_pass, raw_row, raw_columns, stroke_columns, strokes_columns}
 use Rattle.sound.proofs.SoundNames.{next-total}
 
 -- equal parts of two columns of one length
@@ -26,6 +26,66 @@ part_lengths l m k j n h g = rw (length-take, length-take, length-drop, length-d
 -- all that stands from a place on
 pub rest_all : {A : Type 0} (l : List A) (j : ℕ) → take (length l - j) (drop j l) ≡ drop j l
 rest_all l j = take_all (length l - j) (drop j l) (omega (arith, length-drop j l))
+
+-- a stroke's tests, as the code puts them together
+module _ (rt ts : List ℤ) (ps : List (List Float)) (cs : List ℕ) (es fs : List (List ℤ)) (fp : List (List Float)) (four : 4 ≤ length ts) (a : Bool) (is : a ≡ (times_pass ts && (every merged_row ps && every small_count cs))) where
+  named : Bool
+  named = named_rows rt (take (length ts - 2) (drop 1 cs)) (take (length ts - 2) (drop 1 es))
+
+  split : (x y z f n : Bool) → (x && (y && (z && (f && n)))) ≡ ((x && (y && z)) && (f && n))
+  split false y z f n = refl
+  split true false z f n = refl
+  split true true z f n = refl
+
+  as-asked : stroke_columns rt ts ps cs es fs fp ≡ (a && (fractal_columns fs fp && named))
+  unfolding stroke_columns named
+  as-asked =
+      rw (le-leb 4 (length ts) four)
+      (split (times_pass ts) (every merged_row ps) (every small_count cs) (fractal_columns fs fp) named ∙ sym (ap (λ (t : Bool). t && (fractal_columns fs fp && named)) is))
+
+  pub stroke_bad : a ≡ false → false ≡ stroke_columns rt ts ps cs es fs fp
+  stroke_bad e = sym (as-asked ∙ ap (λ (t : Bool). t && (fractal_columns fs fp && named)) e)
+
+  by_marks : a ≡ true → stroke_columns rt ts ps cs es fs fp ≡ (fractal_columns fs fp && named)
+  by_marks e = as-asked ∙ ap (λ (t : Bool). t && (fractal_columns fs fp && named)) e
+
+  pub stroke_unmarked : (f : Bool) → f ≡ fractal_columns fs fp → a ≡ true → f ≡ false → false ≡ stroke_columns rt ts ps cs es fs fp
+  stroke_unmarked f g e h = sym (by_marks e ∙ ap (λ (t : Bool). t && named) (sym g ∙ h))
+
+  pub stroke_named : (f r : Bool) → f ≡ fractal_columns fs fp → a ≡ true → f ≡ true → r ≡ named_rows rt (take (length ts - 1 - 1) (drop 1 cs)) (take (length ts - 1 - 1) (drop 1 es)) → r ≡ stroke_columns rt ts ps cs es fs fp
+  unfolding named
+  stroke_named f r g e h w =
+      let q : length ts - 1 - 1 ≡ length ts - 2 = omega arith in
+      (rw q at w) ∙ sym (by_marks e ∙ ap (λ (t : Bool). t && named) (sym g ∙ h))
+
+-- and the unfinished bars'
+module _ (rt ts : List ℤ) (ps : List (List Float)) (cs : List ℕ) (es : List (List ℤ)) (a : Bool) (is : a ≡ (times_pass ts && (every merged_row ps && every small_count cs))) where
+  rest_named : Bool
+  rest_named = named_rows rt (drop (skipped (length cs)) cs) (drop (skipped (length cs)) es)
+
+  front_split : (x y z n : Bool) → (x && (y && (z && n))) ≡ ((x && (y && z)) && n)
+  front_split false y z n = refl
+  front_split true false z n = refl
+  front_split true true z n = refl
+
+  front-asked : unfinished_columns rt ts ps cs es ≡ (a && (newest_row rt cs es && rest_named))
+  unfolding unfinished_columns rest_named
+  front-asked = front_split (times_pass ts) (every merged_row ps) (every small_count cs) (newest_row rt cs es && rest_named) ∙ sym (ap (λ (t : Bool). t && (newest_row rt cs es && rest_named)) is)
+
+  pub unfinished_bad : a ≡ false → false ≡ unfinished_columns rt ts ps cs es
+  unfinished_bad e = sym (front-asked ∙ ap (λ (t : Bool). t && (newest_row rt cs es && rest_named)) e)
+
+  by_newest : a ≡ true → (n : Bool) → n ≡ newest_row rt cs es → (t : Bool) → n ≡ t → unfinished_columns rt ts ps cs es ≡ (t && rest_named)
+  by_newest e n g t h = front-asked ∙ ap (λ (x : Bool). x && (newest_row rt cs es && rest_named)) e ∙ ap (λ (x : Bool). x && rest_named) (sym g ∙ h)
+
+  pub unfinished_old : (n : Bool) → n ≡ newest_row rt cs es → a ≡ true → n ≡ false → false ≡ unfinished_columns rt ts ps cs es
+  unfinished_old n g e h = sym (by_newest e n g false h)
+
+  pub unfinished_named : (n r : Bool) (k : ℕ) → n ≡ newest_row rt cs es → a ≡ true → n ≡ true → k ≡ skipped (length cs)
+      → r ≡ named_rows rt (take (length cs - k) (drop k cs)) (take (length es - k) (drop k es)) → r ≡ unfinished_columns rt ts ps cs es
+  unfolding rest_named
+  unfinished_named n r k g e h q w =
+      w ∙ (λ i. named_rows rt (rest_all cs k i) (rest_all es k i)) ∙ ap (λ (j : ℕ). named_rows rt (drop j cs) (drop j es)) q ∙ sym (by_newest e n g true h)
 
 pub rest_lengths : {A B : Type 0} (l : List A) (m : List B) (j : ℕ) → length l ≡ length m → length (take (length l - j) (drop j l)) ≡ length (take (length m - j) (drop j m))
 rest_lengths l m j h = rw (rest_all l j, rest_all m j, length-drop, length-drop, h)

@@ -70,6 +70,11 @@ empty_stand minimum most power ratio rooms =
       ratio_places = ratio;
     }
 
+-- a fresh analyzer for the stores that are lent: their lengths are recorded
+unfoldable pub first_stand : ℕ → ℕ → ℕ → ℕ → Stores → Stand
+unfolding empty_stand or_default rooms_of
+first_stand minimum most power ratio m = empty_stand (or_default minimum 6) (or_default most 50) power ratio (rooms_of m)
+
 -- what a refusal hands back beside its number: settings of 0, which no later call takes for sound
 unfoldable pub no_stand : Stand
 unfolding empty_stand

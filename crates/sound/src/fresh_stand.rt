@@ -1,13 +1,17 @@
 // The fresh analyzer: CZSC::new of the source, with resolve_min_bi_len and resolve_max_bi_num.
-ghost use Rattle.std.specs.Prelude.{◌≡◌, length};
+ghost use Rattle.std.specs.Prelude.{◌≡◌, IfOk};
+ghost use Rattle.bars.specs.Refusals.{asked};
 ghost use Rattle.machine.specs.FeedQuestions.{or_else};
 ghost use Rattle.machine.specs.Soundness.{is_room, is_places};
+ghost use Rattle.strokes.specs.declared.Stand.{Stand};
 ghost use Rattle.strokes.specs.Lent.{stores_seen};
-ghost use Rattle.sound.specs.FreshStand.{is_asked, question17, rooms_fit, or_default, empty_stand, fresh_of};
+ghost use Rattle.strokes.specs.Columns.{stores_in};
+ghost use Rattle.sound.specs.FreshStand.{is_asked, question17, rooms_fit, rooms_of, or_default, empty_stand, first_stand, fresh_failed, fresh_of};
 
 use super::soundness::columns_agree;
-use bars::both;
-use strokes::{Rooms, Stand};
+use bars::Question;
+use stores::{MergedColumns, RawColumns};
+use strokes::{FractalColumns, Rooms, Stand, StoreColumns};
 
 // What a fresh analyzer answers: the number of the question that was answered "no", or 0, and the
 // stand.
@@ -37,25 +41,19 @@ fn empty_stand(minimum: usize, most: usize, power: usize, ratio: usize, rooms: R
 pub fn is_room(n: usize) -> bool
     ensures { result ≡ is_room n }
 {
-    both(16 <= n, n <= 65536)
+    (16..=65536).contains(&n)
 }
 
 pub fn rooms_fit(rooms: Rooms) -> bool
     ensures { result ≡ rooms_fit rooms }
 {
-    both(
-        is_room(rooms.raw),
-        both(is_room(rooms.unfinished), is_room(rooms.strokes)),
-    )
+    is_room(rooms.raw) & (is_room(rooms.unfinished) & is_room(rooms.strokes))
 }
 
 fn or_default(n: usize, d: usize) -> usize
     ensures { result ≡ or_default n d }
 {
-    if n == 0 {
-        return d;
-    }
-    n
+    if n == 0 { d } else { n }
 }
 
 // How many decimal places a setting may ask for.
@@ -66,38 +64,59 @@ pub fn is_places(n: usize) -> bool
 }
 
 // How many bars the lent stores hold, by their columns of times.
-fn rooms_of(rt: &[i64], ut: &[i64], st: &[i64]) -> Rooms
-    ensures { result ≡ record { raw = length rt.now; unfinished = length ut.now; strokes = length st.now } }
+fn rooms_of(stores: StoreColumns<'_>) -> Rooms
+    ensures { result ≡ rooms_of (stores_in stores.entry) }
 {
     Rooms {
-        raw: rt.len(),
-        unfinished: ut.len(),
-        strokes: st.len(),
+        raw: stores.raw.times.len(),
+        unfinished: stores.unfinished.times.len(),
+        strokes: stores.strokes.times.len(),
     }
 }
 
-// Questions 1, 2, 17 and 3, where `hold` answers the last: the number of the first one that is answered "no", or 0.
-fn fresh_failed(minimum: usize, most: usize, power: usize, ratio: usize, hold: bool) -> u64
-    ensures { result ≡ or_else (is_asked minimum) 1 (or_else (is_asked most) 2 (or_else (question17 power ratio) 17 (or_else hold 3 0))) }
+// Questions 1, 2, 17 and 3, where `hold` answers the last.
+fn ask_settings(
+    minimum: usize,
+    most: usize,
+    power: usize,
+    ratio: usize,
+    hold: bool,
+) -> Result<(), Question>
+    ensures { asked result ≡ or_else (is_asked minimum) 1 (or_else (is_asked most) 2 (or_else (question17 power ratio) 17 (or_else hold 3 0))) }
 {
     if 64 < minimum {
-        return 1;
+        return Err(Question::MinimumLength);
     }
     if 64 < most {
-        return 2;
+        return Err(Question::MostStrokes);
     }
-    if !both(is_places(power), is_places(ratio)) {
-        return 17;
+    if !(is_places(power) & is_places(ratio)) {
+        return Err(Question::Places);
     }
-    if hold {
-        return 0;
-    }
-    3
+    if hold { Ok(()) } else { Err(Question::Rooms) }
 }
 
-// A fresh analyzer for the lent stores, whose lengths it records: no cell of them is read. A minimum
-// of 0 means 6, most strokes of 0 mean 50. `power` and `ratio` are the decimal places for power and for
-// ratios, each 0 to 6, where 0 is none. A refusal hands back a stand that is not sound with any stores.
+// A fresh analyzer for the lent stores, whose lengths it records: no cell of them is read. A minimum of 0 means 6, most strokes of 0
+// mean 50. `power` and `ratio` are the decimal places for power and for ratios, each 0 to 6, where 0 is none.
+pub fn new_stand(
+    minimum: usize,
+    most: usize,
+    power: usize,
+    ratio: usize,
+    stores: StoreColumns<'_>,
+) -> Result<Stand, Question>
+    ensures refused { asked result ≡ fresh_failed minimum most power ratio (stores_in stores.entry) }
+    ensures begun { IfOk result (λ (s : Stand). s ≡ first_stand minimum most power ratio (stores_in stores.entry)) }
+{
+    let rooms = rooms_of(stores);
+    let hold = columns_agree(rooms, stores) & rooms_fit(rooms);
+    ask_settings(minimum, most, power, ratio, hold)?;
+    let minimum = or_default(minimum, 6);
+    let most = or_default(most, 50);
+    Ok(empty_stand(minimum, most, power, ratio, rooms))
+}
+
+// The same of loose columns. A refusal hands back a stand that is not sound with any stores.
 pub fn fresh(
     minimum: usize,
     most: usize,
@@ -121,29 +140,48 @@ pub fn fresh(
 ) -> FreshAnswer
     ensures { result ≡ fresh_of minimum most power ratio (stores_seen rt ri rp ut ui up uc ue st si sp sc se fs fp) }
 {
-    let rooms = rooms_of(rt, ut, st);
-    let agree = columns_agree(
-        rooms, rt, ri, rp, ut, ui, up, uc, ue, st, si, sp, sc, se, fs, fp,
-    );
-    let failed = fresh_failed(minimum, most, power, ratio, both(agree, rooms_fit(rooms)));
-    if failed == 0 {
-        let stand = empty_stand(
-            or_default(minimum, 6),
-            or_default(most, 50),
-            power,
-            ratio,
-            rooms,
-        );
-        return FreshAnswer { refused: 0, stand };
-    }
-    let none = Rooms {
-        raw: 0,
-        unfinished: 0,
-        strokes: 0,
+    let raw = RawColumns {
+        times: rt,
+        ids: ri,
+        prices: rp,
     };
-    let stand = empty_stand(0, 0, 0, 0, none);
-    FreshAnswer {
-        refused: failed,
-        stand,
+    let unfinished = MergedColumns {
+        times: ut,
+        ids: ui,
+        prices: up,
+        counts: uc,
+        elements: ue,
+    };
+    let strokes = MergedColumns {
+        times: st,
+        ids: si,
+        prices: sp,
+        counts: sc,
+        elements: se,
+    };
+    let fractals = FractalColumns {
+        stamps: fs,
+        prices: fp,
+    };
+    let stores = StoreColumns {
+        raw,
+        unfinished,
+        strokes,
+        fractals,
+    };
+    match new_stand(minimum, most, power, ratio, stores) {
+        Ok(stand) => FreshAnswer { refused: 0, stand },
+        Err(q) => {
+            let none = Rooms {
+                raw: 0,
+                unfinished: 0,
+                strokes: 0,
+            };
+            let stand = empty_stand(0, 0, 0, 0, none);
+            FreshAnswer {
+                refused: q.number(),
+                stand,
+            }
+        }
     }
 }

@@ -5,6 +5,6 @@ mod fresh_stand;
 mod newest;
 mod soundness;
 
-pub use fresh_stand::{FreshAnswer, fresh};
+pub use fresh_stand::{FreshAnswer, fresh, new_stand};
 pub use newest::newest_is_last;
-pub use soundness::stores_sound;
+pub use soundness::is_sound;

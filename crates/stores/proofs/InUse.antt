@@ -14,8 +14,8 @@ use Rattle.bars.specs.Bars.{Merged}
 use Rattle.bars.specs.Lists.{copied}
 use Rattle.stores.specs.Stores.{RawStore, MergedStore, raw_part, zip_with, with_first, raw_bars, merged_bars}
 use Rattle.stores.specs.Code.StoreRows.{SizedRaw, SizedMerged, in_use, RowsCopied, CopiedInUse}
-use Rattle.bars.proofs.Moves.{length-copied, take-copied, copied_none, copy_turn, down_turn, up_none, up_turn, up-end, part_copied}
-use Rattle.stores.proofs.Columns.{zip-set, zip-at, zip_longer, zip_length, zip-copied, part_of, back_in, back-length, zip_part, zip-back, raw-length, raw-copied, sized-copied}
+use Rattle.bars.proofs.Moves.{length-copied, take-copied, copied_none, copy_turn, copied-turn, down_turn, up_none, up_turn, up-end}
+use Rattle.stores.proofs.Columns.{zip-set, zip-at, zip_longer, zip_length, zip-copied, raw-length, raw-copied, sized-copied}
 
 -- ---- the first places of one row to another
 
@@ -62,8 +62,8 @@ row-turn es₀ es at r k v e h hl hr q =
     (λ i. set (e i) at (set (row i) k v)) ∙ set-again es₀ at l (set l k v) ∙ ap (set es₀ at) (copy_turn s r l k (pos 0) v refl hl hr q)
 
 -- the places that are read are those of the other row, also where the count is above their number
-read_down : (r s : List ℤ) (count m n : ℕ) → m ≡ min count (length s) → n ≡ min m (length r) → length r ≡ length s → take count (copied r 0 s 0 n) ≡ take count s
-read_down r s count m n em en e = by (lt-or_ge count (length s))
+read_down : (r s : List ℤ) (count n : ℕ) → n ≡ min count (length s) → length r ≡ length s → take count (copied r 0 s 0 n) ≡ take count s
+read_down r s count n en e = by (lt-or_ge count (length s))
   where
     x : List ℤ
     x = copied r 0 s 0 n
@@ -81,20 +81,19 @@ read_down r s count m n em en e = by (lt-or_ge count (length s))
     by (inl h) = let k : n ≡ count = omega arith in subst (λ (j : ℕ). take j x ≡ take j s) k first
     by (inr h) = take_all count x (omega (arith, long)) ∙ sym (take_all n x (omega (arith, long))) ∙ first ∙ take_all n s (omega arith) ∙ sym (take_all count s h)
 
-pub row-end : (es₀ es : List (List ℤ)) (at : ℕ) (r : List ℤ) (count m n k : ℕ)
+pub row-end : (es₀ es : List (List ℤ)) (at : ℕ) (r : List ℤ) (count n k : ℕ)
     → es ≡ set es₀ at (copied (get_or es₀ at []) 0 r 0 k)
     → at < length es₀
-    → m ≡ min count (length r)
-    → n ≡ min m (length (get_or es₀ at []))
+    → n ≡ min count (length r)
     → length (get_or es₀ at []) ≡ length r
     → k ≤ n
     → n ≤ k
     → (take count (get_or es at []) ≡ take count r) × (es ≡ set es₀ at (get_or es at []))
-row-end es₀ es at r count m n k e h em en el a b =
+row-end es₀ es at r count n k e h en el a b =
     let s = get_or es₀ at [] in
     let q : k ≡ n = omega arith in
     let row : get_or es at [] ≡ copied s 0 r 0 k = ap (λ (x : List (List ℤ)). get_or x at []) e ∙ get_or-set_same es₀ at (copied s 0 r 0 k) [] h in
-    (ap (take count) (row ∙ ap (copied s 0 r 0) q) ∙ read_down s r count m n em en el, e ∙ ap (set es₀ at) (sym row))
+    (ap (take count) (row ∙ ap (copied s 0 r 0) q) ∙ read_down s r count n en el, e ∙ ap (set es₀ at) (sym row))
 
 -- ---- the rows
 
@@ -124,26 +123,26 @@ module _ (cs : List ℕ) (es : List (List ℤ)) where
 
   module _ (cs' : List ℕ) (es' es'' : List (List ℤ)) where
     -- another store's rows, the first row first
-    pub copy_rows-turn : (ds : List ℕ) (fs : List (List ℤ)) (i c : ℕ)
-        → RowsCopied cs es 0 ds fs 0 i cs' es'
-        → i < length cs
-        → i < length es
-        → i < length ds
-        → i < length fs
-        → c ≡ get_or ds i 0
-        → take c (get_or es'' i []) ≡ take c (get_or fs i [])
-        → es'' ≡ set es' i (get_or es'' i [])
-        → RowsCopied cs es 0 ds fs 0 (i + 1) (set cs' i c) es''
-    copy_rows-turn ds fs i c d hc he hd hf ec et eq =
-        let row = get_or es'' i [] in
-        let room = in_use-room (i + 1) cs es (omega arith) (omega arith) in
-        let from = in_use-room (i + 1) ds fs (omega arith) (omega arith) in
+    pub join-rows-turn : (ds : List ℕ) (fs : List (List ℤ)) (at from i c : ℕ)
+        → RowsCopied cs es at ds fs from i cs' es'
+        → at + i < length cs
+        → at + i < length es
+        → from + i < length ds
+        → from + i < length fs
+        → c ≡ get_or ds (from + i) 0
+        → take c (get_or es'' (at + i) []) ≡ take c (get_or fs (from + i) [])
+        → es'' ≡ set es' (at + i) (get_or es'' (at + i) [])
+        → RowsCopied cs es at ds fs from (i + 1) (set cs' (at + i) c) es''
+    join-rows-turn ds fs at from i c d hc he hd hf ec et eq =
+        let row = get_or es'' (at + i) [] in
+        let room = in_use-room (at + i + 1) cs es (omega arith) (omega arith) in
+        let read = in_use-room (from + i + 1) ds fs (omega arith) (omega arith) in
         record {
-          counts = copy_turn cs ds cs' i 0 c d.counts hc hd ec;
+          counts = copied-turn cs ds cs' at from i (at + i) 0 c d.counts hc hd refl ec;
           elements =
-              in_use-set cs' es' es'' i c eq
-              ∙ copy_turn (in_use cs es) (in_use ds fs) (in_use cs' es') i [] (take c row) d.elements (omega arith) (omega arith) (in_use-at ds fs i c row hd hf ec et);
-          places = ap length eq ∙ length-set es' i row ∙ d.places;
+              in_use-set cs' es' es'' (at + i) c eq
+              ∙ copied-turn (in_use cs es) (in_use ds fs) (in_use cs' es') at from i (at + i) [] (take c row) d.elements (omega arith) (omega arith) refl (in_use-at ds fs (from + i) c row hd hf ec et);
+          places = ap length eq ∙ length-set es' (at + i) row ∙ d.places;
         }
 
     -- rows of the same store, down
@@ -201,23 +200,6 @@ module _ (cs : List ℕ) (es : List (List ℤ)) where
   pub up-rows-end : (at from n i : ℕ) (cs' : List ℕ) (es' : List (List ℤ)) → RowsCopied cs es (at + i) cs es (from + i) (n - i) cs' es' → i ≤ 0 → RowsCopied cs es at cs es from n cs' es'
   up-rows-end at from n i cs' es' d h =
       record { counts = up-end cs cs' at from n i d.counts h; elements = up-end (in_use cs es) (in_use cs' es') at from n i d.elements h; places = d.places }
-
-  -- the columns after their parts from `at` on were lent to a copy of the first n rows of other parts
-  pub part_rows : (ds : List ℕ) (fs : List (List ℤ)) (cs' : List ℕ) (es' : List (List ℤ)) (at from n : ℕ)
-      → at + n ≤ length cs
-      → at + n ≤ length es
-      → RowsCopied (part_of at cs) (part_of at es) 0 (part_of from ds) (part_of from fs) 0 n cs' es'
-      → RowsCopied cs es at ds fs from n (back_in at cs cs') (back_in at es es')
-  unfolding in_use
-  part_rows ds fs cs' es' at from n hc he d =
-      record {
-        counts = part_copied cs ds (part_of from ds) cs' at from n hc refl d.counts;
-        elements =
-            zip-back take at cs es cs' es' (omega arith) (omega arith)
-            ∙ part_copied (in_use cs es) (in_use ds fs) (part_of from (in_use ds fs)) (in_use cs' es') at from n (in_use-room (at + n) cs es hc he) refl
-            (d.elements ∙ (λ i. copied (zip_part take at cs es i) 0 (zip_part take from ds fs i) 0 n));
-        places = back-length at es es' (omega arith) d.places;
-      }
 
 -- ---- the store
 

@@ -1,5 +1,5 @@
 -- One more element in a row, where the row lies: what the row and the bar at its place then are. Assumes nothing.
-use Prim.Native.Nat.{ℕ, ◌+◌, ◌<◌, ◌≤◌, min}
+use Prim.Native.Nat.{ℕ, ◌+◌, min}
 use mathlib.Core.List.{List, [], ◌∷◌, ◌++◌}
 use mathlib.Core.Path.{◌≡◌, refl, ap, ◌∙◌}
 use native.Mathlib.Omega.{arith}
@@ -9,7 +9,7 @@ use Rattle.bars.specs.declared.Bar.{Bar}
 use Rattle.bars.specs.declared.NewBar.{NewBar}
 use Rattle.bars.specs.Bars.{Merged, merged_of}
 use Rattle.bars.specs.Code.MergedBars.{with_element}
-use Rattle.bars.proofs.Including.{one_more, one_last}
+use Rattle.bars.proofs.Including.{one_more}
 use Rattle.stores.specs.Stores.{RawStore, MergedStore, merged_store, raw_part, bar_of, with_first}
 use Rattle.stores.specs.Code.StoreRows.{set_bar, set_new_bar, RowWritten, BarWritten}
 use Rattle.stores.proofs.Columns.{put_together}
@@ -18,37 +18,19 @@ use Rattle.stores.proofs.Columns.{put_together}
 any_bar : Bar
 any_bar = bar_of (pos 0) (pos 0) []
 
-module _ (cs : List ℕ) (es : List (List ℤ)) (at count used : ℕ) (t u : ℤ) (same : u ≡ t) (long : length (get_or es at []) ≡ 101) (is : used ≡ min count (length (get_or es at []))) where
-  -- where fewer than 100 are in use, and else
-  pub element_more : used < 100 → RowWritten cs es at (take 100 (take count (get_or es at [])) ++ t ∷ []) (set cs at (used + 1)) (set es at (set (get_or es at []) used u))
+module _ (cs : List ℕ) (es : List (List ℤ)) (at count used : ℕ) (t u : ℤ) (same : u ≡ t) (long : length (get_or es at []) ≡ 101) (is : used ≡ min count 100) where
+  pub element_written : RowWritten cs es at (take 100 (take count (get_or es at [])) ++ t ∷ []) (set cs at (used + 1)) (set es at (set (get_or es at []) used u))
   unfolding merged_of with_element
-  element_more few =
+  element_written =
       let row = get_or es at [] in
-      let e : used ≡ count = omega (arith, is, long) in
-      let k : NewBar = record { bar = any_bar; count = used; elements = row } in
+      let k : NewBar = record { bar = any_bar; count = count; elements = row } in
       record {
         count = used + 1;
         row = set row used u;
         counts = refl;
         elements = refl;
-        reads =
-            ap (λ (x : Merged). x.elements) (one_more any_bar k t u same few (omega (arith, long)))
-            ∙ ap (λ (j : ℕ). take 100 (take j row) ++ t ∷ []) e;
-        few = omega arith;
-      }
-
-  pub element_last : 100 ≤ used → RowWritten cs es at (take 100 (take count (get_or es at [])) ++ t ∷ []) (set cs at 101) (set es at (set (get_or es at []) 100 u))
-  unfolding merged_of with_element
-  element_last many =
-      let row = get_or es at [] in
-      let k : NewBar = record { bar = any_bar; count = count; elements = row } in
-      record {
-        count = 101;
-        row = set row 100 u;
-        counts = refl;
-        elements = refl;
-        reads = ap (λ (x : Merged). x.elements) (one_last any_bar k t u same (omega (arith, is, long)) (omega (arith, long)));
-        few = omega arith;
+        reads = ap (λ (x : Merged). x.elements) (one_more any_bar k t u used same is (omega (arith, is, long)));
+        few = omega (arith, is);
       }
 
 -- the bar's other columns were written as well

@@ -1,16 +1,20 @@
 -- The place of a time among times that rise: what a binary search leans on, and what stands at the place that it finds. Assumes nothing.
-use Prim.Native.Nat.{ℕ, zero, suc, ◌<◌, ◌≤◌}
+use Prim.Native.Nat.{ℕ, zero, suc, ◌+◌, ◌<◌, ◌≤◌}
+use native.Mathlib.Numerals.{one-add}
 use mathlib.Core.Bool.{Bool, true, false, not, ◌&&◌, cond}
 use mathlib.Core.List.{List, [], ◌∷◌, map}
+use mathlib.Core.Logic.{◌⊎◌, inl, inr}
 use mathlib.Core.Path.{◌≡◌, refl, ap, sym, ◌∙◌, subst}
 use native.Mathlib.Omega.{arith}
-use lib.ListN.{length, take, drop, get_or, length-map}
-use lib.Seq.{get_or-take, length-take-le}
+use Rattle.std.proofs.lemmas.List.{get_or_default}
+use Rattle.std.specs.List.{take_while, prefix_len}
+use lib.ListN.{take, length, drop, get_or, length-map}
 use lib.IntN.{ℤ, pos}
 use lib.Dec.{T}
 use lib.Signed.{lt_z, le_z, lt_z_no, ≤ℤ_refl}
 use lib.Ieee.Fits.{and_i, and_l, and_r}
 use Rattle.arith.proofs.Tests.{yes, holds, no}
+use Rattle.arith.proofs.FloatOrder.{lt-or_ge}
 use Rattle.bars.specs.Lists.{keep_if, skip_while}
 use Rattle.bars.proofs.Times.{lt-le, le_refl, lt_trans, le_not_lt, lt_not_le, le_antisym}
 use Rattle.stores.specs.Code.StoreRows.{rising, next_if, place_of}
@@ -74,13 +78,48 @@ place_at [] i r k = let w : ⊥ = omega arith in absurd w
 place_at (a ∷ l) zero r k = rw (not-before a)
 place_at (a ∷ l) (suc i) r k = rw (yes (lt_z a (get_or l i (pos 0))) (rising_head a l i r (omega arith))) (ap suc (place_at l i (rising-tail a l r) (omega arith)))
 
--- the same of the first n times, of which one was read
-pub place_past_in : (t : ℤ) (l : List ℤ) (n i : ℕ) (x : ℤ) → T (rising (take n l)) → n ≤ length l → i < n → x ≡ get_or l i (pos 0) → lt_z x t ≡ true → i < place_of t (take n l)
-place_past_in t l n i x r h k q e =
-    place_past t (take n l) i r (rw (length-take-le n l h) k) (rw (get_or-take n l i (pos 0) k, ← q) e)
+-- the times before t come first, so that a search by halves finds the place
+pub early_first : (t : ℤ) (l : List ℤ) (i j : ℕ) (d : ℤ) → T (rising l) → i ≤ j → j < length l → lt_z (get_or l j d) t ≡ true → lt_z (get_or l i d) t ≡ true
+early_first t l i j d r h k e = by (lt_z (get_or l i d) t) refl
+  where
+    same : (m : ℕ) → m < length l → get_or l m d ≡ get_or l m (pos 0)
+    same m g = get_or_default l m d (pos 0) g
 
-pub place_upto_in : (t : ℤ) (l : List ℤ) (n i : ℕ) (x : ℤ) → n ≤ length l → i < n → x ≡ get_or l i (pos 0) → lt_z x t ≡ false → place_of t (take n l) ≤ i
-place_upto_in t l n i x h k q e = place_upto t (take n l) i (rw (length-take-le n l h) k) (rw (get_or-take n l i (pos 0) k, ← q) e)
+    by : (b : Bool) → lt_z (get_or l i d) t ≡ b → b ≡ true
+    by true q = refl
+    by false q =
+        let past = place_past t l j r k (rw (← same j k) e) in
+        let upto = place_upto t l i (omega arith) (rw (← same i (omega arith)) q) in
+        let w : ⊥ = omega arith in
+        absurd w
+
+-- the place before which all times are before t, and behind which none is
+pub place_by : (t : ℤ) (l : List ℤ) (p : ℕ) → T (rising l) → p ≤ length l
+    → ((k : ℕ) → k < p → lt_z (get_or l k (pos 0)) t ≡ true)
+    → ((k : ℕ) → p ≤ k → k < length l → lt_z (get_or l k (pos 0)) t ≡ false)
+    → p ≡ place_of t l
+place_by t l p r fits below above =
+    let low : p ≤ place_of t l = from p fits below in
+    let high : place_of t l ≤ p = to (lt-or_ge p (length l)) in
+    omega arith
+  where
+    from : (q : ℕ) → q ≤ length l → ((k : ℕ) → k < q → lt_z (get_or l k (pos 0)) t ≡ true) → q ≤ place_of t l
+    from zero h g = omega arith
+    from (suc q) h g = let past : q < place_of t l = place_past t l q r (omega arith) (g q (omega arith)) in omega arith
+
+    to : (p < length l) ⊎ (length l ≤ p) → place_of t l ≤ p
+    to (inl h) = place_upto t l p h (above p (omega arith) h)
+    to (inr h) = let k = place-le t l in omega arith
+
+-- how many times before t stand at the front
+pub early_count : (t : ℤ) (l : List ℤ) → length (take_while (λ x. lt_z x t) l) ≡ place_of t l
+unfolding place_of next_if
+early_count t [] = refl
+early_count t (a ∷ l) = by (lt_z a t) (early_count t l)
+  where
+    by : (b : Bool) → length (take_while (λ x. lt_z x t) l) ≡ place_of t l → length (take (cond b (1 + prefix_len (λ x. lt_z x t) l) 0) (a ∷ l)) ≡ next_if b (place_of t l)
+    by true e = rw one-add (ap suc e)
+    by false e = refl
 
 -- ---- rows that have times
 

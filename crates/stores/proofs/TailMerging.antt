@@ -1,6 +1,8 @@
 -- Laws of a bar merged into a tail of bars in rows, and of the whole list that ends with that tail. Assumes nothing.
+use Rattle.std.specs.Prelude as Std
 use Prim.Native.Nat.{ℕ, ◌+◌, ◌-◌, ◌<◌, ◌≤◌}
-use mathlib.Core.Path.{◌≡◌, refl, ap, sym, ◌∙◌}
+use mathlib.Core.Path.{◌≡◌, refl, ap, sym, ◌∙◌, subst}
+use Rattle.std.specs.Prelude.{Option, None, Some}
 use mathlib.Core.Bool.{Bool, true, false}
 use mathlib.Core.List.{List, [], ◌∷◌, ◌++◌, append_assoc}
 use native.Mathlib.Numerals.{add-one}
@@ -12,7 +14,7 @@ use Rattle.bars.specs.declared.Bar.{Bar}
 use Rattle.bars.specs.Bars.{row_of}
 use Rattle.stores.specs.Stores.{RawStore, raw_store, raw_bars}
 use Rattle.stores.specs.Code.StoreRows.{SizedRaw, RoomRaw, bar_at, set_bar}
-use Rattle.stores.specs.Code.TailRows.{rows_from}
+use Rattle.stores.specs.Code.TailRows.{rows_from, TailHas, TailTakes}
 use Rattle.bars.specs.Code.MergedBars.{remove_include_bar, merge_bars, in_place_of, behind}
 use Rattle.stores.proofs.Columns.{raw-length, raw_at, raw_appended}
 use Rattle.bars.proofs.MergedLists.{merge_local}
@@ -52,24 +54,25 @@ module _ (s : RawStore) (k : ℕ) (sized : SizedRaw s k) where
   ends : (m j : ℕ) → m ≡ j + 1 → m ≤ k → take m (raw_bars s) ≡ take j (raw_bars s) ++ bar_at s j ∷ []
   ends m j e h = ap (λ (i : ℕ). take i (raw_bars s)) e ∙ one_more j (omega arith)
 
-  module _ (m : ℕ) (h : Float) (b x : Bar) (f : Bool) (some : 0 < m) (fits : m < k)
-      (is : in_place_of (bar_at s (m - 1)) f x ≡ remove_include_bar h (bar_at s (m - 1)) b) where
-    pub last-merged : f ≡ true → take m (raw_bars (set_bar s (m - 1) x)) ≡ take (m - 1) (raw_bars s) ++ remove_include_bar h (bar_at s (m - 1)) b
+  module _ (m : ℕ) (h : Float) (b : Bar) (some : 0 < m) (fits : m < k) where
+    pub last-merged : (x : Bar) → in_place_of (bar_at s (m - 1)) (Std.Some x) b ≡ remove_include_bar h (bar_at s (m - 1)) b
+        → take m (raw_bars (set_bar s (m - 1) x)) ≡ take (m - 1) (raw_bars s) ++ remove_include_bar h (bar_at s (m - 1)) b
     unfolding in_place_of
-    last-merged t =
+    last-merged x is =
         let e : m ≡ m - 1 + 1 = omega arith in
         ap (λ (i : ℕ). take i (raw_bars (set_bar s (m - 1) x))) e
         ∙ raw_appended s (m - 1) k x sized (omega arith)
-        ∙ ap (λ (r : List Bar). take (m - 1) (raw_bars s) ++ r) (rw t at is)
+        ∙ ap (λ (r : List Bar). take (m - 1) (raw_bars s) ++ r) is
 
-    pub last-own : f ≡ false → take (m + 1) (raw_bars (set_bar s m x)) ≡ take (m - 1) (raw_bars s) ++ remove_include_bar h (bar_at s (m - 1)) b
+    pub last-own : in_place_of (bar_at s (m - 1)) Std.None b ≡ remove_include_bar h (bar_at s (m - 1)) b
+        → take (m + 1) (raw_bars (set_bar s m b)) ≡ take (m - 1) (raw_bars s) ++ remove_include_bar h (bar_at s (m - 1)) b
     unfolding in_place_of
-    last-own t =
+    last-own is =
         let e : m ≡ m - 1 + 1 = omega arith in
-        raw_appended s m k x sized fits
-        ∙ ap (λ (r : List Bar). r ++ x ∷ []) (ends m (m - 1) e (omega arith))
-        ∙ append_snoc (take (m - 1) (raw_bars s)) (bar_at s (m - 1)) (x ∷ [])
-        ∙ ap (λ (r : List Bar). take (m - 1) (raw_bars s) ++ r) (rw t at is)
+        raw_appended s m k b sized fits
+        ∙ ap (λ (r : List Bar). r ++ b ∷ []) (ends m (m - 1) e (omega arith))
+        ∙ append_snoc (take (m - 1) (raw_bars s)) (bar_at s (m - 1)) (b ∷ [])
+        ∙ ap (λ (r : List Bar). take (m - 1) (raw_bars s) ++ r) is
 
   module _ (any : Bool) (k0 b : Bar) (m : ℕ) (fits : m < k) where
     -- an empty tail, a tail of one bar, alone or behind k0, and a longer one
@@ -101,3 +104,52 @@ unfolding rows_from set_bar
 beyond-set s t p r b h e =
     ap (rows_from r) e
     ∙ (λ i. raw_store (drop-set-lt r s.times p b.time h i) (drop-set-lt r s.ids p b.id h i) (drop-set-lt r s.prices p (row_of b) h i))
+
+-- ---- the tail, behind the bar that stands before it, where there is one
+
+-- what include_last says of a tail t of r bars
+abbrev pub Included : RawStore → ℕ → Float → Bar → RawStore → ℕ → Type 0
+Included s m h b t r =
+    (take r (raw_bars t) ≡ take (m - 1) (raw_bars s) ++ remove_include_bar h (bar_at s (m - 1)) b) × (m ≤ r) × (r ≤ m + 1) × (rows_from r t ≡ rows_from r s)
+
+module _ (s t : RawStore) (k m : ℕ) (b : Bar) (sized : SizedRaw s k) (fits : m < k) where
+  has_one : (any : Bool) (k0 : Bar) → m ≡ 0 → t ≡ set_bar s 0 b → TailHas any k0 s m 1 t 1 (merge_bars (behind any k0 ++ take m (raw_bars s)) b)
+  has_one any k0 e w =
+      record {
+        bars = ap (λ (x : RawStore). behind any k0 ++ take 1 (raw_bars x)) w ∙ tail-first s k sized any k0 b m fits e;
+        least = omega arith;
+        most = omega arith;
+        beyond = beyond-set s t 0 1 b (omega arith) w;
+      }
+
+  has_more : (any : Bool) (k0 : Bar) (h : Float) (r : ℕ) → 1 < m → h ≡ (bar_at s (m - 2)).high → Included s m h b t r
+      → TailHas any k0 s m 1 t r (merge_bars (behind any k0 ++ take m (raw_bars s)) b)
+  has_more any k0 h r more g e =
+      record { bars = tail_within s k sized any k0 b m fits (take r (raw_bars t)) h e.0 more g; least = e.1; most = e.2; beyond = e.3 }
+
+  pub takes_first : (o : Option Bar) → m ≡ 0 → t ≡ set_bar s 0 b → TailTakes o s m b t 1
+  unfolding TailTakes
+  takes_first None e w = has_one false b e w
+  takes_first (Some k0) e w = has_one true k0 e w
+
+  pub takes_alone : (o : Option Bar) → o ≡ None → m ≡ 1 → t ≡ set_bar s 1 b → TailTakes o s m b t 2
+  unfolding TailTakes
+  takes_alone o q e w =
+      subst (λ (x : Option Bar). TailTakes x s m b t 2) (sym q)
+      (record {
+        bars = ap (λ (x : RawStore). behind false b ++ take 2 (raw_bars x)) w ∙ tail_alone s k sized false b b m fits e refl;
+        least = omega arith;
+        most = omega arith;
+        beyond = beyond-set s t 1 2 b (omega arith) w;
+      })
+
+  pub takes_behind : (o : Option Bar) (k0 : Bar) (r : ℕ) → o ≡ Some k0 → m ≡ 1 → Included s m k0.high b t r → TailTakes o s m b t r
+  unfolding TailTakes
+  takes_behind o k0 r q i e =
+      subst (λ (x : Option Bar). TailTakes x s m b t r) (sym q)
+      (record { bars = tail-behind s k sized true k0 b m fits (take r (raw_bars t)) k0.high e.0 i refl refl; least = e.1; most = e.2; beyond = e.3 })
+
+  pub takes_within : (o : Option Bar) (h : Float) (r : ℕ) → 1 < m → h ≡ (bar_at s (m - 2)).high → Included s m h b t r → TailTakes o s m b t r
+  unfolding TailTakes
+  takes_within None h r more g e = has_more false b h r more g e
+  takes_within (Some k0) h r more g e = has_more true k0 h r more g e

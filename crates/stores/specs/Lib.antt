@@ -1,3 +1,4 @@
 pub mod Stores
+pub mod Columns
 pub mod Lent
 pub mod Code

@@ -2,11 +2,11 @@
 #![tactic(auto)]
 
 mod bar_stores;
+mod lent_columns;
 mod rows;
 mod tails;
 
-pub use bar_stores::{
-    find_time, join_bars, join_new_bars, move_bars_down, move_bars_up, move_new_bars_down,
-    move_new_bars_up, read_bar, read_new_bar, write_bar, write_with_element,
-};
+pub use bar_stores::{find_time, read_bar, read_new_bar, write_bar};
+pub use lent_columns::{MergedColumns, MergedColumnsMut, RawColumns, RawColumnsMut};
+pub use rows::move_rows;
 pub use tails::merge_into_tail;

@@ -1,11 +1,11 @@
 -- What is read back of rows that were written. Assumes nothing.
 use Prim.Native.Nat.{ℕ, ◌≤◌, ◌<◌}
 use native.Mathlib.Omega.{arith}
-use mathlib.Core.Path.{◌≡◌, refl, ap, sym}
+use mathlib.Core.Path.{◌≡◌, refl, ap, sym, subst}
 use mathlib.Core.Bool.{Bool, true, false, ◌&&◌}
 use mathlib.Core.List.{List, [], ◌∷◌}
 use lib.ListN.{length, get_or, set}
-use lib.Dec.{T, leb, leb→le}
+use lib.Dec.{T, leb, leb→le, eqb, eqb→eq}
 use lib.Ieee.Fits.{and_l, and_r}
 use borrow.Author.Tests.{le-leb, lt-leb}
 use Rattle.arith.proofs.Tests.{holds}
@@ -36,6 +36,13 @@ unfolding rows_there
 there ns cs e =
     let t : T (rows_there ns cs) = holds e in
     (leb→le 1 (length ns) (and_l (leb 1 (length ns)) (leb 2 (length cs)) t), leb→le 2 (length cs) (and_r (leb 1 (length ns)) (leb 2 (length cs)) t))
+
+pub filled : (ns : List (List ℕ)) → eqb (length ns) 0 ≡ false → 1 ≤ length ns
+filled [] e = absurd (subst T e tt)
+filled (a ∷ l) e = omega arith
+
+pub emptied : (ns : List (List ℕ)) → eqb (length ns) 0 ≡ true → length ns < 1
+emptied ns e = let q : length ns ≡ 0 = eqb→eq (length ns) 0 (holds e) in omega arith
 
 pub none-there : (ns cs : List (List ℕ)) → length ns < 1 → false ≡ rows_there ns cs
 unfolding rows_there

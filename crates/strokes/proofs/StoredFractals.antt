@@ -1,12 +1,14 @@
 -- The fractals that a stroke store holds: a fractal's rows read back as the fractal, and fractals that are written one after the other are what stands there.
 -- Assumes nothing.
-use Prim.Native.Nat.{ℕ, zero, suc, ◌+◌, ◌≤◌, ◌<◌}
-use native.Mathlib.Numerals.{add-one}
+use Prim.Native.Nat.{ℕ, suc, ◌+◌, ◌≤◌, ◌<◌}
 use native.Mathlib.Omega.{arith}
 use mathlib.Core.Path.{◌≡◌, refl, ap, sym, ◌∙◌, subst}
-use mathlib.Core.Bool.{Bool, true, false, cond}
+use mathlib.Core.Bool.{Bool, true, false, cond, not}
 use mathlib.Core.List.{List, [], ◌∷◌, ◌++◌, map, append-nil}
 use mathlib.Core.Option
+use Rattle.std.specs.Prelude.{None}
+use Rattle.std.specs.Prelude as Std
+use Rattle.std.specs.Option.{option_eq}
 use mathlib.Core.Option.{Option, none, some, some-injective, none-ne-some}
 use lib.ListN.{length, take, drop, set, length-append, length-set, length-map, length-take, length-drop, get_or-map, take-append-drop}
 use lib.Seq.{take-suc-set, drop-set-lt, drop-cons, append_snoc, get_or-take, drop-drop, length-take-le}
@@ -22,7 +24,7 @@ use Rattle.stores.specs.Code.StoreRows.{RoomRaw, bar_at}
 use Rattle.stores.proofs.Columns.{zip-take, zip-drop, zip-append, raw_at, raw_longer}
 use Rattle.machine.specs.declared.Mark.{Mark}
 use Rattle.machine.specs.declared.Mark.TheVariants.{D, G}
-use Rattle.machine.specs.Fractals.{Fractal, is_top, is_bottom, check_fx, taken, push_if, pushed, fxs_after, check_fxs, placed_after}
+use Rattle.machine.specs.Fractals.{Fractal, same_mark, is_top, is_bottom, check_fx, taken, push_if, pushed, fxs_after, check_fxs, placed_after}
 use Rattle.check_bi.specs.declared.check_fx.Candle.{Candle}
 use Rattle.check_bi.specs.Code.Scan.{candle_of, top_of, bottom_of}
 use Rattle.strokes.specs.StateRead.{row_bar, fractal_of, row_fractal, stored_fractals, bare_bar, bare_fractal}
@@ -177,31 +179,26 @@ pub record Going (d : FractalStore) (at : ℕ) (s : Writing) (fs ans : List Frac
   pub stamps : Filled d.stamps s.store.stamps at s.written.count (map stamp_row fs) (map stamp_row ans)
   pub prices : Filled d.prices s.store.prices at s.written.count (map price_row fs) (map price_row ans)
 
-pub going_start : (d : FractalStore) (at : ℕ) (m : Mark) (ans : List Fractal) → Going d at (record { store = d; written = record { count = 0; last = m } }) ans ans
-going_start d at m ans = record { counts = omega arith; stamps = filled_start d.stamps at (map stamp_row ans); prices = filled_start d.prices at (map price_row ans) }
+pub going_start : (d : FractalStore) (at : ℕ) (ans : List Fractal) → Going d at (record { store = d; written = record { count = 0; last = None } }) ans ans
+going_start d at ans = record { counts = omega arith; stamps = filled_start d.stamps at (map stamp_row ans); prices = filled_start d.prices at (map price_row ans) }
 
 -- place k is inside both columns
 pub record Inside (s : FractalStore) (k : ℕ) : Type 0 where
   pub stamps : k < length s.stamps
   pub prices : k < length s.prices
 
-last-next : (n : ℕ) (m : Mark) → last_mark (n + 1) m ≡ some m
-unfolding last_mark
-last-next n m = rw add-one
-
 put_going : (t : Bool) (d : FractalStore) (at : ℕ) (s : Writing) (m : Mark) (a b c : Bar) (next : Option Mark → List Fractal) (ans : List Fractal)
     → Inside s.store (at + s.written.count)
     → Going d at s (push_if t (record { mark = m; left = plain_bar a; mid = plain_bar b; right = plain_bar c }) (last_of s.written) next) ans
     → Going d at (put_if t s at m a b c) (next (last_of (put_if t s at m a b c).written)) ans
-unfolding push_if put_if set_fractal stamp_row price_row plain_bar last_of
+unfolding push_if put_if set_fractal stamp_row price_row plain_bar last_of last_mark
 put_going true d at s m a b c next ans h g =
     let n = s.written.count in
-    subst (λ (p : Option Mark). Going d at (put_if true s at m a b c) (next p) ans) (sym (last-next n m))
-    (record {
+    record {
       counts = omega (arith, g.counts);
       stamps = filled_step d.stamps s.store.stamps at n (stamps_of a b c) (map stamp_row (next (some m))) (map stamp_row ans) h.stamps g.stamps;
       prices = filled_step d.prices s.store.prices at n (prices_of a b c) (map price_row (next (some m))) (map price_row ans) h.prices g.prices;
-    })
+    }
 put_going false d at s m a b c next ans h g = g
 
 window_going : (t u : Bool) (d : FractalStore) (at : ℕ) (s : Writing) (a b c : Bar) (next : Option Mark → List Fractal) (ans : List Fractal)
@@ -277,6 +274,12 @@ write_turn r d at end i s s' a b c ans h k ea eb ec es n g =
     (window_going (is_top a b c) (is_bottom a b c) d at s a b c (λ p. fxs_after p (plain_bar b ∷ plain_bar c ∷ drop (suc (suc (suc i))) v)) ans n
     (subst (λ (x : List Merged). Going d at s (fxs_after (last_of s.written) x) ans) o g)))
 
+-- whether a mark is taken, by the equality of marks that the code has
+pub is_taken : (E : Mark → Mark → Bool) → ((a b : Mark) → E a b ≡ same_mark a b) → (o : Std.Option Mark) (m : Mark) → taken (last_mark o) m ≡ not (option_eq E o (Std.Some m))
+unfolding taken last_mark
+is_taken E h Std.None m = refl
+is_taken E h (Std.Some k) m = ap not (sym (h k m))
+
 -- tops and bottoms by the candles of bars
 pub top_read : {x y z : Candle} (a b c : Bar) {r t : Bool} → x ≡ candle_of (plain_bar a) → y ≡ candle_of (plain_bar b) → z ≡ candle_of (plain_bar c) → r ≡ top_of x y z → r ≡ t → is_top a b c ≡ t
 unfolding top_of is_top candle_of plain_bar
@@ -287,16 +290,10 @@ unfolding bottom_of is_bottom candle_of plain_bar
 bottom_read a b c ex ey ez e h = sym (λ i. bottom_of (ex i) (ey i) (ez i)) ∙ sym e ∙ h
 
 -- before the first window
-pub write_start : (r : RawStore) (d : FractalStore) (at first end : ℕ) (m : Mark)
-    → Going d at (record { store = d; written = record { count = 0; last = m } }) (fxs_after (last_of (record { count = 0; last = m })) (drop first (plains r end))) (fractals_between r first end)
+pub write_start : (r : RawStore) (d : FractalStore) (at first end : ℕ)
+    → Going d at (record { store = d; written = record { count = 0; last = None } }) (fxs_after (last_of (record { count = 0; last = None })) (drop first (plains r end))) (fractals_between r first end)
 unfolding fractals_between check_fxs last_of last_mark
-write_start r d at first end m = going_start d at m (fxs_after none (drop first (plains r end)))
-
--- of a count that is not 0
-pub last_some : (n : ℕ) (m : Mark) → (n ≡ 0 → ⊥) → last_mark n m ≡ some m
-unfolding last_mark
-last_some zero m h = absurd (h refl)
-last_some (suc n) m h = refl
+write_start r d at first end = going_start d at (fxs_after none (drop first (plains r end)))
 
 pub none_left : (p : Option Mark) (l : List Merged) → length l ≤ 2 → fxs_after p l ≡ []
 unfolding fxs_after

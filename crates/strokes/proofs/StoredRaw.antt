@@ -5,16 +5,15 @@ use mathlib.Core.List.{List, [], ◌∷◌, ◌++◌, map}
 use mathlib.Core.Option.{some}
 use mathlib.Core.Path.{◌≡◌, refl, ap, sym, ◌∙◌, subst}
 use native.Mathlib.Nat.{zero-add}
-use native.Mathlib.Numerals.{add-one}
 use native.Mathlib.Omega.{arith}
-use lib.ListN.{length, take, drop, get_or, drop_of_length-le, take-append-drop}
-use lib.Seq.{drop-cons, length-take-le, get_or-take}
-use lib.IntN.{ℤ, pos}
+use lib.ListN.{length, take, drop, get_or, take-append-drop}
+use lib.Seq.{length-take-le}
+use lib.IntN.{ℤ}
 use lib.Signed.{lt_z}
 use Rattle.bars.specs.declared.Bar.{Bar}
 use Rattle.bars.specs.Lists.{skip_while, last, init, copied}
 use Rattle.stores.specs.Stores.{RawStore, raw_store, raw_bars}
-use Rattle.stores.specs.Code.StoreRows.{SizedRaw, set_bar, copied_raw, next_if, place_of}
+use Rattle.stores.specs.Code.StoreRows.{SizedRaw, set_bar, copied_raw, place_of}
 use Rattle.bars.proofs.Moves.{take-copied, run_is}
 use Rattle.stores.proofs.Columns.{raw-length, raw_appended, raw-copied, raw-times, sized_set, sized-copied}
 use Rattle.stores.proofs.Searching.{place-le, place_skip}
@@ -71,37 +70,6 @@ module _ {A : Type 0} where
 
 pub place_in : (t : ℤ) (l : List ℤ) (n j : ℕ) → n ≤ length l → j ≡ place_of t (take n l) → j ≤ n
 place_in t l n j h e = let p = place-le t (take n l) in let q = length-take-le n l h in omega arith
-
--- ---- the scan that counts the times before t
-
-module _ (ts : List ℤ) (n : ℕ) (t : ℤ) (i r : ℕ) (fits : n ≤ length ts) (so_far : i + place_of t (drop i (take n ts)) ≡ r) where
-  count_at : i < n → drop i (take n ts) ≡ get_or ts i (pos 0) ∷ drop (suc i) (take n ts)
-  count_at h =
-      let k : i < length (take n ts) = rw (length-take-le n ts fits) h in
-      rw (← get_or-take n ts i (pos 0) h) (drop-cons (take n ts) i (pos 0) k)
-
-  pub count_turn : (x : ℤ) → i < n → x ≡ get_or ts i (pos 0) → lt_z x t ≡ true → i + 1 + place_of t (drop (i + 1) (take n ts)) ≡ r
-  unfolding place_of next_if
-  count_turn x h q f =
-      let p : place_of t (drop i (take n ts)) ≡ suc (place_of t (drop (i + 1) (take n ts))) =
-      ap (place_of t) (count_at h)
-      ∙ ap (λ (b : Bool). next_if b (place_of t (drop (suc i) (take n ts)))) (ap (λ (y : ℤ). lt_z y t) (sym q) ∙ f)
-      ∙ ap (λ (k : ℕ). suc (place_of t (drop k (take n ts)))) (sym (add-one i)) in
-      omega arith
-
-  pub count-here : (x : ℤ) → i < n → x ≡ get_or ts i (pos 0) → lt_z x t ≡ false → i ≡ r
-  unfolding place_of next_if
-  count-here x h q f =
-      let p : place_of t (drop i (take n ts)) ≡ 0 =
-      ap (place_of t) (count_at h) ∙ ap (λ (b : Bool). next_if b (place_of t (drop (suc i) (take n ts)))) (ap (λ (y : ℤ). lt_z y t) (sym q) ∙ f) in
-      omega arith
-
-  pub count-end : n ≤ i → i ≡ r
-  unfolding place_of
-  count-end h =
-      let k : length (take n ts) ≤ i = rw (length-take-le n ts fits) h in
-      let p : place_of t (drop i (take n ts)) ≡ 0 = ap (place_of t) (drop_of_length-le (take n ts) {i = i} k) in
-      omega arith
 
 -- ---- the raw store
 

@@ -11,6 +11,8 @@ use mathlib.Core.Option.{Option, none, some}
 use lib.ListN.{length, take, drop, get_or, set, length-take, length-drop, length-map, get_or-map, drop_of_length-le}
 use lib.Seq.{take-take, drop-drop, get_or-take, length-take-le, take-suc-set, take_all, take_at, drop_at, take-append_seam, take-suc, get_or-drop}
 use lib.IntN.{ℤ, pos}
+use Rattle.std.specs.Prelude.{sum}
+use Rattle.std.proofs.lemmas.List.Sums.{sum_by-cons}
 use lib.Ieee.{Float, nan, lt}
 use lib.Dec.{T, ltb, leb, eqb, leb→le, ltb→lt, eqb→eq}
 use lib.Ieee.Fits.{and_l, and_r}
@@ -20,7 +22,7 @@ use Rattle.bars.specs.Bars.{Merged, merged_of}
 use Rattle.bars.specs.Lists.{All, every, some_of, last, init, copied}
 use Rattle.stores.specs.Stores.{RawStore, MergedStore, raw_part, bar_of, raw_bars, merged_bars}
 use Rattle.stores.specs.Code.StoreRows.{SizedMerged, RoomRaw, RoomMerged, bar_at, new_bar_at, CopiedInUse}
-use Rattle.bars.proofs.Moves.{take-copied, run_is, down_turn}
+use Rattle.bars.proofs.Moves.{take-copied, run_is}
 use Rattle.stores.proofs.Columns.{zip_length, zip-at, merged-at, merged-length, merged-bars}
 use Rattle.stores.proofs.KeptBars.{map-take}
 use Rattle.stores.proofs.InUse.{copied_read, copied-sized}
@@ -113,6 +115,12 @@ total-drop [] = refl
 total-drop (n ∷ ns) = omega arith
 
 -- the next of the first n numbers that are added up
+-- the library's sum
+pub total_sum : (l : List ℕ) → sum l ≡ total l
+unfolding total
+total_sum [] = refl
+total_sum (n ∷ l) = let e = sum_by-cons (λ (x : ℕ). x) n l in let q = total_sum l in omega arith
+
 pub total-step : (l : List ℕ) (n i a : ℕ) → n ≤ length l → i < n → a + total (drop i (take n l)) ≡ total (take n l) → a + get_or l i 0 + total (drop (i + 1) (take n l)) ≡ total (take n l)
 unfolding total
 total-step l n i a h k e = omega (arith, ap total (counts-next l n i h k))
@@ -158,12 +166,6 @@ shed_read ns ms ks fs h a b =
 pub stored_length : (f : FractalStore) (n : ℕ) → SizedFractals f n → length (stored_fractals f) ≡ n
 unfolding stored_fractals
 stored_length f n h = zip_length row_fractal f.stamps f.prices (h.stamps ∙ sym h.prices) ∙ h.stamps
-
--- counts that are moved one place down, the j-th next
-pub shift_turn : (s l : List ℕ) (j v : ℕ) → l ≡ copied s 0 s 1 j → j + 1 < length s → v ≡ get_or l (j + 1) 0 → set l j v ≡ copied s 0 s 1 (j + 1)
-shift_turn s l j v e h q =
-    let a : 1 + j ≡ j + 1 = omega arith in
-    ap (λ (k : ℕ). set l k v) (sym (zero-add j)) ∙ down_turn s l 0 1 j 0 v e (omega arith) (omega arith) (q ∙ ap (λ (k : ℕ). get_or l k 0) (sym a))
 
 -- the counts one place down
 pub counts-down : (l r : List ℕ) (n : ℕ) → r ≡ shifted l → 65 ≤ length l → 1 ≤ n → n ≤ 65 → take (n - 1) r ≡ drop 1 (take n l)
@@ -747,6 +749,24 @@ last-sums l (suc n) h = let e : suc n - 1 ≡ n = omega arith in rw e (total_suc
 -- where the bars of the last stroke begin, by where they end
 pub last-place-is : (l : List ℕ) (n u : ℕ) → 1 ≤ n → u ≡ total (take n l) → u - get_or l (n - 1) 0 ≡ total (take (n - 1) l)
 last-place-is l n u h e = omega (arith, last-sums l n h)
+
+-- the rows that the break test reads of it are inside a store of n places
+pub record LastInside (s : Stand) (n t e : ℕ) : Type 0 where
+  pub start : t < n
+  pub end : t + e < n
+  pub two : 2 ≤ get_or s.bars (s.strokes - 1) 0
+  pub bars : t + get_or s.bars (s.strokes - 1) 0 ≤ n
+
+pub last_inside : (s : Stand) (n u e : ℕ) → LastStands s n → u ≡ total (bar_counts s) → e ≡ 2 * (get_or s.fractals (s.strokes - 1) 0 / 2) - 1
+    → LastInside s n (u - get_or s.bars (s.strokes - 1) 0) e
+unfolding last_place last_bars last_fractals bar_counts
+last_inside s n u e p q r =
+    let a = p.fits in
+    let two = p.two in
+    let b = p.ends in
+    let d = p.fewer in
+    let t = last-place-is s.bars s.strokes u p.strokes q in
+    record { start = omega arith; end = omega arith; two = two; bars = omega arith }
 
 pub last_done : (s : Stand) (ts : List ℤ) (ps : List (List Float)) (r : LastStroke) (t i : ℕ)
     → t ≡ total (take (s.strokes - 1) s.bars)

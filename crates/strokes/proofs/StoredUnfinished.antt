@@ -1,13 +1,13 @@
 -- What the unfinished store holds after a writing step of a feed. Assumes nothing.
+use Rattle.std.specs.Prelude as Std
 use Prim.Native.Nat.{ℕ, suc, ◌+◌, ◌-◌, ◌<◌, ◌≤◌}
-use mathlib.Core.Bool.{Bool, true, false}
-use mathlib.Core.List.{List, [], ◌∷◌, ◌++◌, map, append-nil, append_assoc}
+use mathlib.Core.List.{List, [], ◌∷◌, ◌++◌, map, append_assoc}
 use mathlib.Core.Option.{some}
 use mathlib.Core.Path.{◌≡◌, refl, ap, sym, ◌∙◌, subst}
-use native.Mathlib.Nat.{le_refl, zero-add}
+use native.Mathlib.Nat.{zero-add}
 use native.Mathlib.Omega.{arith}
-use lib.ListN.{length, take, drop, get_or, length-append, length-drop, drop_of_length-le}
-use lib.Seq.{length-take-le, take_all, take-add, take-suc, take-append-add, drop_at, drop-drop, append_snoc, get_or-drop}
+use lib.ListN.{length, take, drop, get_or, length-append, length-drop}
+use lib.Seq.{length-take-le, take-suc, take-append-add, drop_at, append_snoc, get_or-drop}
 use lib.IntN.{ℤ, pos}
 use Rattle.bars.specs.declared.Bar.{Bar}
 use Rattle.bars.specs.Bars.{Merged, merged_of, own}
@@ -15,10 +15,10 @@ use Rattle.bars.specs.Lists.{last, init, copied}
 use Rattle.bars.specs.Merging.{merge_in, remove_include}
 use Rattle.bars.specs.Code.MergedBars.{remove_include_bar, remove_include_after, in_place_of, with_element}
 use Rattle.bars.proofs.Including.{included_elements, included_own}
-use Rattle.stores.specs.Stores.{RawStore, raw_store, MergedStore, merged_store, raw_part, bar_of, with_first, merged_bars}
-use Rattle.stores.specs.Code.StoreRows.{SizedMerged, RoomMerged, BarWritten, bar_at, new_bar_at, set_new_bar, copied_raw, in_use, CopiedInUse, place_of}
+use Rattle.stores.specs.Stores.{MergedStore, raw_part, bar_of, with_first, merged_bars}
+use Rattle.stores.specs.Code.StoreRows.{SizedMerged, RoomMerged, BarWritten, bar_at, new_bar_at, set_new_bar, CopiedInUse, place_of}
 use Rattle.bars.proofs.Moves.{take-copied, run_is}
-use Rattle.stores.proofs.Columns.{merged-length, merged-at, merged_appended, merged-bars, raw-times, sized-merged-set, part_of, back_in, back-length, zip_part, zip-back}
+use Rattle.stores.proofs.Columns.{merged-length, merged-at, merged_appended, merged-bars, raw-times, sized-merged-set}
 use Rattle.stores.proofs.InUse.{copied_read, copied-sized}
 use Rattle.strokes.specs.declared.Stand.{Stand}
 use Rattle.machine.specs.ByTime.{from}
@@ -34,6 +34,14 @@ room_of s n k h a =
       raw = record { times = rw h.raw.times a; ids = rw h.raw.ids a; prices = rw h.raw.prices a };
       counts = rw h.counts a;
       elements = rw h.elements a;
+    }
+
+pub room-merged : (s : MergedStore) (n k : ℕ) → RoomMerged s n → k ≤ n → RoomMerged s k
+room-merged s n k h a =
+    record {
+      raw = record { times = omega (arith, h.raw.times); ids = omega (arith, h.raw.ids); prices = omega (arith, h.raw.prices) };
+      counts = omega (arith, h.counts);
+      elements = omega (arith, h.elements);
     }
 
 -- the code's stand and store are these, and n unfinished bars of the store read as l
@@ -139,9 +147,9 @@ module _ (s r : Stand) (m w : MergedStore) (h : SizedMerged m s.rooms.unfinished
       let g : length (take n (merged_bars m)) ≡ n = length-take-le n (merged_bars m) (rw (merged-length m s.rooms.unfinished h) (omega arith)) in
       put_behind c (merge_few (take n (merged_bars m)) b (rw g a)) d e
 
-  module _ (k1 k2 k : Bar) (x : Bool) (two : 2 ≤ s.unfinished) (fits : s.unfinished ≤ s.rooms.unfinished)
+  module _ (k1 k2 : Bar) (o : Std.Option Bar) (two : 2 ≤ s.unfinished) (fits : s.unfinished ≤ s.rooms.unfinished)
       (k1_is : k1 ≡ bar_at (raw_part m) (s.unfinished - 2)) (k2_is : k2 ≡ bar_at (raw_part m) (s.unfinished - 1))
-      (found : in_place_of k2 x k ≡ remove_include_bar k1.high k2 b) where
+      (found : in_place_of k2 o b ≡ remove_include_bar k1.high k2 b) where
     z : Merged
     z = merged_of (new_bar_at m (s.unfinished - 1))
 
@@ -156,16 +164,16 @@ module _ (s r : Stand) (m w : MergedStore) (h : SizedMerged m s.rooms.unfinished
         let p = merged-at m (s.unfinished - 2) z (room_of m s.rooms.unfinished (s.unfinished - 2 + 1) h (omega arith)) in
         λ i. remove_include_after ((ap (λ (y : Bar). y.high) k1_is ∙ ap (λ (y : Merged). y.bar.high) (sym p)) i) (sym last-there i) b
 
-    found-there : in_place_of z.bar x k ≡ remove_include_bar k1.high z.bar b
+    found-there : in_place_of z.bar o b ≡ remove_include_bar k1.high z.bar b
     unfolding z merged_of new_bar_at
-    found-there = subst (λ (y : Bar). in_place_of y x k ≡ remove_include_bar k1.high y b) k2_is found
+    found-there = subst (λ (y : Bar). in_place_of y o b ≡ remove_include_bar k1.high y b) k2_is found
 
-    pub merged_put : (t : ℤ) → t ≡ b.time → x ≡ true
+    pub merged_put : (k : Bar) (t : ℤ) → t ≡ b.time → o ≡ Std.Some k
         → BarWritten m (s.unfinished - 1) (with_element k (with_first k (get_or m.counts (s.unfinished - 1) 0) (get_or m.elements (s.unfinished - 1) [])) t) w
         → r ≡ with_unfinished s s.unfinished
         → HasUnfinished s r w (merge_in (kept_unfinished s m) b)
     unfolding in_place_of z merged_of new_bar_at with_element with_first
-    merged_put t q y d e =
+    merged_put k t q y d e =
         let n = s.unfinished in
         let K = s.rooms.unfinished in
         let v = set_new_bar m (n - 1) d.bar in
@@ -174,74 +182,25 @@ module _ (s r : Stand) (m w : MergedStore) (h : SizedMerged m s.rooms.unfinished
         has_unfinished s r w v n (merge_in (kept_unfinished s m) b) e d.store (sized-merged-set m (n - 1) K d.bar h) fits
         (ap (λ (j : ℕ). take j (merged_bars v)) (sym g)
         ∙ merged_appended m (n - 1) K d.bar h (omega arith)
-        ∙ last-merged (merged_bars m) n z b two (rw (merged-length m K h) fits) (merged_of d.bar) (included_elements z b k1.high k x y found-there (merged_of d.bar) reads ∙ there))
+        ∙ last-merged (merged_bars m) n z b two (rw (merged-length m K h) fits) (merged_of d.bar) (included_elements z b k1.high k (rw y at found-there) (merged_of d.bar) reads ∙ there))
 
-    put_apart : x ≡ false → kept_unfinished s m ++ own b ∷ [] ≡ merge_in (kept_unfinished s m) b
+    put_apart : o ≡ Std.None → kept_unfinished s m ++ own b ∷ [] ≡ merge_in (kept_unfinished s m) b
     unfolding in_place_of
     put_apart y =
         last_apart (merged_bars m) s.unfinished z b two (rw (merged-length m s.rooms.unfinished h) fits) (own b)
-        (ap (λ (u : Merged). u ∷ own b ∷ []) last-there ∙ included_own z b k1.high k x y found-there (own b) refl ∙ there)
+        (ap (λ (u : Merged). u ∷ own b ∷ []) last-there ∙ included_own z b k1.high (subst (λ (x : Std.Option Bar). in_place_of z.bar x b ≡ remove_include_bar k1.high z.bar b) y found-there) ∙ there)
 
-    pub apart-room : x ≡ false → length (merge_in (kept_unfinished s m) b) ≤ s.rooms.unfinished → s.unfinished < s.rooms.unfinished
+    pub apart-room : o ≡ Std.None → length (merge_in (kept_unfinished s m) b) ≤ s.rooms.unfinished → s.unfinished < s.rooms.unfinished
     apart-room y a =
         let g = length-take-le s.unfinished (merged_bars m) (rw (merged-length m s.rooms.unfinished h) fits) in
         let e = ap length (put_apart y) in
         let f = length-append (kept_unfinished s m) (own b ∷ []) in
         omega arith
 
-    pub apart_put : x ≡ false → s.unfinished < s.rooms.unfinished → BarWritten m s.unfinished (own b) w → r ≡ with_unfinished s (s.unfinished + 1) → HasUnfinished s r w (merge_in (kept_unfinished s m) b)
+    pub apart_put : o ≡ Std.None → s.unfinished < s.rooms.unfinished → BarWritten m s.unfinished (own b) w → r ≡ with_unfinished s (s.unfinished + 1) → HasUnfinished s r w (merge_in (kept_unfinished s m) b)
     apart_put y c d e = put_behind c (put_apart y) d e
 
 -- ---- the break
-
-module _ (lo at from i j n : ℕ) (to : lo + i ≡ at) (of : lo + j ≡ from) where
-  -- d after its part from `lo` on, `&mut d[lo..]`, was lent to a move of n rows
-  part_moved : {A : Type 0} (d r : List A) → r ≡ copied (take (length d - lo) (drop lo d)) i (take (length d - lo) (drop lo d)) j n
-      → take lo d ++ (r ++ drop (length d - lo) (drop lo d)) ≡ copied d at d from n
-  unfolding copied
-  part_moved {A} d r e =
-      let D = drop lo d in
-      let whole : take (length d - lo) D ≡ D = take_all (length d - lo) D (rw length-drop (le_refl (length d - lo))) in
-      let none : drop (length d - lo) D ≡ [] = drop_of_length-le D {i = length d - lo} (rw length-drop (le_refl (length d - lo))) in
-      let g : lo + (i + n) ≡ at + n = omega arith in
-      let p : drop j D ≡ drop from d = drop-drop j lo d ∙ ap (λ (y : ℕ). drop y d) of in
-      let q : drop (i + n) D ≡ drop (at + n) d = drop-drop (i + n) lo d ∙ ap (λ (y : ℕ). drop y d) g in
-      ap (λ (x : List A). take lo d ++ (r ++ x)) none
-      ∙ ap (λ (x : List A). take lo d ++ x) (append-nil r ∙ e ∙ ap (λ (x : List A). copied x i x j n) whole)
-      ∙ (λ t. take lo d ++ (take i D ++ take n (p t) ++ q t))
-      ∙ sym (append_assoc (take lo d) (take i D ++ take n (drop from d)) (drop (at + n) d))
-      ∙ ap (λ (x : List A). x ++ drop (at + n) d) (sym (append_assoc (take lo d) (take i D) (take n (drop from d))))
-      ∙ ap (λ (x : List A). x ++ take n (drop from d) ++ drop (at + n) d) (sym (take-add lo i d) ∙ ap (λ (y : ℕ). take y d) to)
-
-  -- the same of every column
-  abbrev parts_of : MergedStore → MergedStore
-  parts_of s = merged_store (part_of lo s.times) (part_of lo s.ids) (part_of lo s.prices) (part_of lo s.counts) (part_of lo s.elements)
-
-  abbrev backs : MergedStore → MergedStore → MergedStore
-  backs s v =
-      merged_store (back_in lo s.times v.times) (back_in lo s.ids v.ids) (back_in lo s.prices v.prices) (back_in lo s.counts v.counts)
-      (back_in lo s.elements v.elements)
-
-  pub parts_moved : (s v : MergedStore) → lo ≤ length s.counts → lo ≤ length s.elements → CopiedInUse (parts_of s) i (parts_of s) j n v → CopiedInUse s at s from n (backs s v)
-  unfolding copied_raw in_use
-  parts_moved s v h k e =
-      let cs = s.counts in
-      let es = s.elements in
-      let u = zip_part take lo cs es in
-      record {
-        raw =
-            λ t. raw_store (part_moved s.times v.times (ap (λ (x : RawStore). x.times) e.raw) t)
-            (part_moved s.ids v.ids (ap (λ (x : RawStore). x.ids) e.raw) t)
-            (part_moved s.prices v.prices (ap (λ (x : RawStore). x.prices) e.raw) t);
-        rows =
-            record {
-              counts = part_moved cs v.counts e.rows.counts;
-              elements =
-                  zip-back take lo cs es v.counts v.elements h k
-                  ∙ part_moved (in_use cs es) (in_use v.counts v.elements) (e.rows.elements ∙ (λ t. copied (u t) i (u t) j n));
-              places = back-length lo es v.elements k e.rows.places;
-            };
-      }
 
 -- m rows of another list before the rows from place j on of the first n
 pub joined-rows : {A : Type 0} (l k : List A) (m j n at : ℕ) → j ≤ n → n ≤ length l → m + (n - j) ≤ length l → at + m ≤ length k

@@ -1,4 +1,5 @@
 pub mod Lent
+pub mod Columns
 pub mod StateRead
 pub mod FractalRows
 pub mod Packed

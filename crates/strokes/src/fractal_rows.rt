@@ -11,21 +11,14 @@ use machine::{Direction, Mark};
 pub fn row_mark(p: [f64; 18]) -> Mark
     ensures { result ≡ row_mark p }
 {
-    let x = Candle {
+    let candle = |at: usize| Candle {
         time: 0,
-        high: p[2],
-        low: p[3],
+        high: p[at],
+        low: p[at + 1],
     };
-    let y = Candle {
-        time: 0,
-        high: p[8],
-        low: p[9],
-    };
-    let z = Candle {
-        time: 0,
-        high: p[14],
-        low: p[15],
-    };
+    let x = candle(2);
+    let y = candle(8);
+    let z = candle(14);
     if check_bi::is_top(x, y, z) {
         return Mark::G;
     }
@@ -46,17 +39,12 @@ pub fn direction_of(m: Mark) -> Direction
 pub fn row_direction(p: [f64; 18]) -> Direction
     ensures { result ≡ direction_of (row_mark p) }
 {
-    let m = row_mark(p);
-    direction_of(m)
+    direction_of(row_mark(p))
 }
 
 // Which of a stroke's m fractals is its end: the last, or the last but one where they are odd in number.
 pub fn end_index(m: usize) -> usize
     ensures { result ≡ 2 * (m / 2) - 1 }
 {
-    let half = m / 2;
-    if half == 0 {
-        return 0;
-    }
-    2 * half - 1
+    (m / 2 * 2).saturating_sub(1)
 }

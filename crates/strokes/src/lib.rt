@@ -2,12 +2,14 @@
 #![tactic(auto)]
 
 mod fractal_rows;
+mod lent_columns;
 mod packed;
 mod raw_store;
 mod strokes_store;
 mod unfinished_store;
 
 pub use fractal_rows::{direction_of, end_index, row_mark};
+pub use lent_columns::{FractalColumns, FractalColumnsMut, StoreColumns};
 pub use packed::{pack, rows_there, unpack};
 pub use raw_store::count_before;
 pub use strokes_store::{LastStroke, Written, last_stroke, last_stroke_within, total_bars};
@@ -24,6 +26,7 @@ pub struct Rooms {
 // number of strokes kept; `bars` and `fractals` have the number of merged bars and of fractals of
 // each, oldest first. A stroke just made counts before one is shed, so there are 65 places. The last
 // two are settings: how many decimal places power and ratios are rounded to.
+// Kept: arrays of a fixed length with the number of strokes beside, since a stand is a value without heap.
 #[derive(Clone, Copy)]
 pub struct Stand {
     pub minimum: usize,

@@ -1,7 +1,8 @@
 // A stand packed in lent rows of numbers, for those who keep stands between two calls. `numbers` has one row: minimum, most, the three rooms, the numbers of
 // raw bars, of unfinished bars and of strokes, and the places for power and for ratios. `counts` has two: the strokes' numbers of bars and of fractals. Rows behind these stay as they are.
+// Kept: functions and no conversions, since a stand lies in two slices that a caller lends, and packing leaves their other rows.
 ghost use Rattle.std.specs.Prelude.{◌≡◌, ◌≤◌, length};
-ghost use Rattle.strokes.specs.Packed.{stand_of, packed, numbers_with, counts_with, rows_there};
+ghost use Rattle.strokes.specs.Packed.{packed, numbers_with, counts_with, rows_there};
 
 use crate::{Rooms, Stand};
 
@@ -9,57 +10,55 @@ use crate::{Rooms, Stand};
 pub fn rows_there(numbers: &[[usize; 10]], counts: &[[u32; 65]]) -> bool
     ensures { result ≡ rows_there numbers.now counts.now }
 {
-    if numbers.len() < 1 {
-        return false;
-    }
-    2 <= counts.len()
-}
-
-fn stand_of(n: [usize; 10], bars: [u32; 65], fractals: [u32; 65]) -> Stand
-    ensures { result ≡ stand_of n bars fractals }
-{
-    let rooms = Rooms {
-        raw: n[2],
-        unfinished: n[3],
-        strokes: n[4],
-    };
-    Stand {
-        minimum: n[0],
-        most: n[1],
-        rooms,
-        raw: n[5],
-        unfinished: n[6],
-        strokes: n[7],
-        bars,
-        fractals,
-        power_places: n[8],
-        ratio_places: n[9],
-    }
+    !numbers.is_empty() && 2 <= counts.len()
 }
 
 pub fn unpack(numbers: &[[usize; 10]], counts: &[[u32; 65]]) -> Stand
     requires { (1 ≤ length numbers.now) × (2 ≤ length counts.now) }
     ensures { result ≡ packed numbers.now counts.now }
 {
-    let n = numbers[0];
-    let bars = counts[0];
-    let fractals = counts[1];
-    stand_of(n, bars, fractals)
+    let [
+        minimum,
+        most,
+        raw_room,
+        unfinished_room,
+        stroke_room,
+        raw,
+        unfinished,
+        strokes,
+        power_places,
+        ratio_places,
+    ] = numbers[0];
+    Stand {
+        minimum,
+        most,
+        rooms: Rooms {
+            raw: raw_room,
+            unfinished: unfinished_room,
+            strokes: stroke_room,
+        },
+        raw,
+        unfinished,
+        strokes,
+        bars: counts[0],
+        fractals: counts[1],
+        power_places,
+        ratio_places,
+    }
 }
 
 pub fn pack(stand: Stand, numbers: &mut [[usize; 10]], counts: &mut [[u32; 65]])
     requires { (1 ≤ length numbers.old) × (2 ≤ length counts.old) }
     ensures { (numbers.new ≡ numbers_with stand numbers.old) × (counts.new ≡ counts_with stand counts.old) }
 {
-    let rooms = stand.rooms;
     let bars = stand.bars;
     let fractals = stand.fractals;
     numbers[0] = [
         stand.minimum,
         stand.most,
-        rooms.raw,
-        rooms.unfinished,
-        rooms.strokes,
+        stand.rooms.raw,
+        stand.rooms.unfinished,
+        stand.rooms.strokes,
         stand.raw,
         stand.unfinished,
         stand.strokes,

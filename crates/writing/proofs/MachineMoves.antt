@@ -13,7 +13,7 @@ use lib.Ieee.Fits.{and_l, and_r}
 use Rattle.bars.specs.Bars.{Merged}
 use Rattle.bars.specs.Lists.{every, some_of, last, init}
 use Rattle.machine.specs.Strokes.{Stroke, Found, stroke_at, check_bi, cut}
-use Rattle.machine.specs.Break.{breaks, joined}
+use Rattle.machine.specs.Break.{breaks, joined, high_of, low_of}
 use Rattle.machine.specs.Feed.{Moved, add_found, add_made, make_after, make_if, make, break_if, break_last, move_after, move_if, move, shed_if, shed_count}
 use Rattle.machine.specs.Soundness.{alternates, same_fractal, is_stroke}
 use Rattle.machine.proofs.Places.{fits}
@@ -24,8 +24,12 @@ use Rattle.strokes.specs.StateRead.{bare_stroke, stroke_with}
 use Rattle.strokes.specs.Code.StrokeSteps.{made_stroke}
 use Rattle.strokes.proofs.StoredStrokes.{found-is, made-cut, place_of}
 use Rattle.asking.specs.declared.plan.Plan.{Plan}
+use Rattle.asking.specs.Code.FeedPlan.{start_in, end_in, bars_made}
+use Rattle.check_bi.specs.declared.scan.FoundBi.{FoundBi}
+use Rattle.std.specs.declared.option.Option as code
+use Rattle.std.specs.Prelude.{Some, None, is_some}
 use Rattle.asking.specs.Code.Asked.{last_of, time_or0}
-use Rattle.asking.proofs.PlanMeans.{LastIs, Planned, plan_means, add_unbroken}
+use Rattle.asking.proofs.PlanMeans.{LastIs, KeptLast, Planned, plan_means, add_unbroken, moved_as}
 use Rattle.writing.specs.Code.WriteSteps.{add_if, rest_of}
 use Rattle.writing.specs.Code.Written.{plan_with}
 
@@ -141,8 +145,8 @@ time_read : (o : Option Merged) (k : Merged) → o ≡ some k → time_or0 o ≡
 unfolding time_or0
 time_read o k e = ap time_or0 e
 
-last_read_lem : (b : Stroke) → 2 ≤ length b.bars → LastIs b (last_of (some b))
-unfolding last_of
+last_read_lem : (b : Stroke) → 2 ≤ length b.bars
+    → LastIs b (record { mark = b.start.mark; high = high_of b; low = low_of b; bars = length b.bars; time = time_or0 (last (init b.bars)) })
 last_read_lem b h =
     let w = some-before b.bars h in
     record { mark-is = refl; high_is = refl; low-is = refl; bars_are = refl; before = w.bar; before-is = w.is; time-is = time_read (last (init b.bars)) w.bar w.is }
@@ -152,52 +156,50 @@ pub record HasPlan (minimum : ℕ) (l : List Merged) (bs : List Stroke) (p : Pla
   pub planned : Planned minimum l bs stroke p
 
 plan_read : (minimum : ℕ) (l : List Merged) (bs : List Stroke) → Full bs → HasPlan minimum l bs (plan_with minimum l bs)
-unfolding plan_with
+unfolding plan_with last_of last
 plan_read minimum l [] h =
     let b = stroke_with [] [] in
-    record { stroke = b; planned = plan_means minimum l (map candle_of l) refl b (last_of (last [])) [] tt }
+    record { stroke = b; planned = plan_means minimum l (map candle_of l) refl b [] (last_of (last [])) tt }
 plan_read minimum l (a ∷ bs) h =
     let w = some-last a bs in
     let b = w.stroke in
-    let r = subst (λ (o : Option Stroke). LastIs b (last_of o)) (sym w.is) (last_read_lem b (full_last (a ∷ bs) b h w.is)) in
-    record { stroke = b; planned = plan_means minimum l (map candle_of l) refl b (last_of (last (a ∷ bs))) (a ∷ bs) (w.is, r) }
+    let r = subst (λ (o : Option Stroke). KeptLast (a ∷ bs) b (last_of o)) (sym w.is) (w.is, last_read_lem b (full_last (a ∷ bs) b h w.is)) in
+    record { stroke = b; planned = plan_means minimum l (map candle_of l) refl b (a ∷ bs) (last_of (last (a ∷ bs))) r }
 
 pub has_plan : (minimum : ℕ) (l : List Merged) (bs : List Stroke) (p : Plan) → Full bs → p ≡ plan_with minimum l bs → HasPlan minimum l bs p
 has_plan minimum l bs p h e = subst (HasPlan minimum l bs) (sym e) (plan_read minimum l bs h)
 
 -- ---- what make leaves
 
-pub record MakesAs (minimum : ℕ) (l : List Merged) (bs : List Stroke) (p : Plan) : Type 0 where
-  pub left : (make minimum l bs).left ≡ drop (rest_of p) l
-  pub kept : map bare_stroke (make minimum l bs).kept ≡ add_if p.found.made (map bare_stroke bs) (made_stroke l (p.cut + p.found.start.place) p.found.bars)
-  pub made : (make minimum l bs).made ≡ shed_count p.found.made
+-- the stroke found, whose places are counted from the cut on
+pub record MakesAs (minimum : ℕ) (l : List Merged) (bs : List Stroke) (cut : ℕ) (f : code.Option FoundBi) : Type 0 where
+  pub left : (make minimum l bs).left ≡ drop (cut + end_in f) l
+  pub kept : map bare_stroke (make minimum l bs).kept ≡ add_if (is_some f) (map bare_stroke bs) (made_stroke l (cut + start_in f) (bars_made f))
+  pub made : (make minimum l bs).made ≡ shed_count (is_some f)
   pub full : Full bs → Full (make minimum l bs).kept
-  pub inside : p.found.made ≡ true → p.cut + p.found.start.place + p.found.bars ≤ length l
+  pub inside : is_some f ≡ true → cut + start_in f + bars_made f ≤ length l
 
-module _ (minimum : ℕ) (l : List Merged) (bs : List Stroke) (b : Stroke) (p : Plan) (h : Planned minimum l bs b p) where
+module _ (minimum : ℕ) (l : List Merged) (bs : List Stroke) (cut : ℕ) where
   abbrev k : List Merged
-  k = drop p.cut l
+  k = drop cut l
 
   abbrev o : Found
   o = check_bi minimum k
 
-  abbrev rest : List Merged
-  rest = drop (p.cut + p.found.end.place) l
-
-  makes_none : p.found.made ≡ false → o ≡ nothing_found k → MakesAs minimum l bs p
-  unfolding add_found add_if shed_count rest_of
-  makes_none t q =
-      let e : make minimum l bs ≡ record { left = rest; kept = bs; made = 0; broken = 0 } = h.makes ∙ ap (λ (x : Found). add_found x.stroke bs rest) q in
-      let first = p.cut + p.found.start.place in
+  makes_none : make minimum l bs ≡ add_found o.stroke bs (drop (cut + 0) l) → o ≡ nothing_found k → MakesAs minimum l bs cut None
+  unfolding add_found add_if shed_count end_in start_in bars_made
+  makes_none h q =
+      let rest = drop (cut + 0) l in
+      let e : make minimum l bs ≡ record { left = rest; kept = bs; made = 0; broken = 0 } = h ∙ ap (λ (x : Found). add_found x.stroke bs rest) q in
       record {
         left = ap (λ (m : Moved). m.left) e;
-        kept = ap (λ (m : Moved). map bare_stroke m.kept) e ∙ sym (ap (λ (x : Bool). add_if x (map bare_stroke bs) (made_stroke l first p.found.bars)) t);
-        made = ap (λ (m : Moved). m.made) e ∙ sym (ap shed_count t);
+        kept = ap (λ (m : Moved). map bare_stroke m.kept) e;
+        made = ap (λ (m : Moved). m.made) e;
         full = λ g. subst (λ (m : Moved). Full m.kept) (sym e) g;
         inside = λ u. let y : ◌≡◌ {A = ℕ} 0 1 = cc in absurd (omega arith);
       }
 
-  module _ (t : p.found.made ≡ true) (m : MadeAs minimum k o p.found) where
+  module _ (f : FoundBi) (m : MadeAs minimum k o f) where
     abbrev w : Stroke
     w = stroke_at k (m.from.start ∷ m.from.others) m.from.start m.from.end
 
@@ -217,28 +219,40 @@ module _ (minimum : ℕ) (l : List Merged) (bs : List Stroke) (b : Stroke) (p : 
         let q = end-stands minimum k o m.from in
         fits k m.from.end.place x.left x.mid x.right q.after q.is
 
-    makes_one : MakesAs minimum l bs p
-    unfolding add_found add_if shed_count rest_of
-    makes_one =
+    makes_one : make minimum l bs ≡ add_found o.stroke bs (drop (cut + f.end.place) l) → MakesAs minimum l bs cut (Some f)
+    unfolding add_found add_if shed_count end_in start_in bars_made
+    makes_one h =
+        let rest = drop (cut + f.end.place) l in
         let e : make minimum l bs ≡ record { left = rest; kept = bs ++ w ∷ []; made = 1; broken = 0 } =
-        h.makes ∙ ap (λ (x : Found). add_found x.stroke bs rest) m.from.found in
-        let first = p.cut + p.found.start.place in
+        h ∙ ap (λ (x : Found). add_found x.stroke bs rest) m.from.found in
+        let first = cut + f.start.place in
         let i = order minimum k o m.from in
-        let a = place_of p.found.start m.from.start m.start in
-        let read : bare_stroke w ≡ made_stroke l first p.found.bars =
-        sym (found-is minimum k p.found m) ∙ made-cut l p.cut p.found.start.place p.found.bars in
+        let a = place_of f.start m.from.start m.start in
+        let read : bare_stroke w ≡ made_stroke l first f.bars =
+        sym (found-is minimum k f m) ∙ made-cut l cut f.start.place f.bars in
         record {
           left = ap (λ (z : Moved). z.left) e;
           kept =
               ap (λ (z : Moved). map bare_stroke z.kept) e
               ∙ map-append bare_stroke bs (w ∷ [])
-              ∙ ap (λ (x : Stroke). map bare_stroke bs ++ x ∷ []) read
-              ∙ sym (ap (λ (x : Bool). add_if x (map bare_stroke bs) (made_stroke l first p.found.bars)) t);
-          made = ap (λ (z : Moved). z.made) e ∙ sym (ap shed_count t);
+              ∙ ap (λ (x : Stroke). map bare_stroke bs ++ x ∷ []) read;
+          made = ap (λ (z : Moved). z.made) e;
           full = λ g. subst (λ (z : Moved). Full z.kept) (sym e) (full_more bs w g (omega (arith, bars-many, within)));
-          inside = λ u. omega (arith, bars-many, within, m.bars, length-drop p.cut l);
+          inside = λ u. omega (arith, bars-many, within, m.bars, length-drop cut l);
         }
 
-  pub makes_as : Means minimum k o p.found → MakesAs minimum l bs p
-  makes_as (inl q) = makes_none q.0 q.1
-  makes_as (inr q) = makes_one q.0 q.1
+  pub makes_as : (f : code.Option FoundBi) → make minimum l bs ≡ add_found o.stroke bs (drop (cut + end_in f) l) → Means minimum k o f → MakesAs minimum l bs cut f
+  unfolding end_in
+  makes_as None h q = makes_none h q
+  makes_as (Some f) h q = makes_one f q h
+
+-- what move makes, by whether the last stroke breaks
+pub moved_broken : (o : code.Option ℕ) (m : Moved) (w : Stroke) (l : List Merged) → is_some o ≡ true → (moved_as o m w l).broken ≡ 1
+unfolding moved_as
+moved_broken (Some j) m w l h = refl
+moved_broken None m w l h = let y : ◌≡◌ {A = ℕ} 0 1 = cc in absurd (omega arith)
+
+pub moved_stays : (o : code.Option ℕ) (m : Moved) (w : Stroke) (l : List Merged) → is_some o ≡ false → moved_as o m w l ≡ m
+unfolding moved_as
+moved_stays None m w l h = refl
+moved_stays (Some j) m w l h = let y : ◌≡◌ {A = ℕ} 0 1 = cc in absurd (omega arith)

@@ -20,6 +20,7 @@ use Rattle.machine.specs.Strokes.{Stroke, check_bi}
 use Rattle.machine.specs.Break.{joined}
 use Rattle.machine.specs.Feed.{Moved, make, move, shed_if, shed_count}
 use Rattle.machine.specs.FeedQuestions.{joined_fits, moved_fits}
+use mir.Val.{bool_byte}
 use Rattle.machine.proofs.StrokesMeet.{last-append}
 use Rattle.check_bi.specs.Code.Scan.{candle_of}
 use Rattle.strokes.specs.declared.Stand.{Stand}
@@ -34,15 +35,23 @@ use Rattle.strokes.proofs.StoredStrokes.{length-take-most, strokes-more, strokes
 use Rattle.strokes.proofs.StoredCounts.{stay_fewer}
 use Rattle.strokes.proofs.BareStates.{last-map, init-map, stored_bare}
 use Rattle.asking.specs.declared.plan.Plan.{Plan}
+use Rattle.asking.specs.Code.FeedPlan.{start_in, bars_made}
+use Rattle.std.specs.Prelude.{is_some}
 use Rattle.asking.specs.Code.Asked.{last_of}
-use Rattle.asking.proofs.PlanMeans.{moved_as, last_stroke}
+use Rattle.asking.proofs.PlanMeans.{last_stroke}
 use Rattle.writing.specs.declared.Wrote.{Wrote}
 use Rattle.writing.specs.Code.WriteSteps.{CanMake, MadeWhere, CanBreak, CanLeave, add_if, left_stand, left_bars, rest_of}
 use Rattle.writing.specs.Code.Written.{CanMove, HasLeft, HasMoved, made_of, moved_of, plan_with, over_of}
 use Rattle.writing.proofs.PlanInView.{rest_in-view}
 use Rattle.writing.proofs.StepLaws.{left-fits, left-rooms, last_sum}
-use Rattle.writing.proofs.MachineMoves.{Full, full_sound, full_last, full_init, Breaks, move-breaks, make_unbroken, HasPlan, has_plan, MakesAs, makes_as}
+use Rattle.writing.proofs.MachineMoves.{Full, full_sound, full_last, full_init, Breaks, move-breaks, make_unbroken, HasPlan, has_plan, MakesAs, makes_as, moved_broken, moved_stays}
 use Rattle.sound.proofs.SoundFacts.{bars_are, counts-alike}
+
+-- one where a test holds, as a feed counts the strokes that it makes, breaks and sheds
+pub counted : (t : Bool) → bool_byte t ≡ shed_count t
+unfolding shed_count
+counted true = refl
+counted false = refl
 
 -- ---- the last stroke's rows
 
@@ -151,8 +160,8 @@ module _ (s : Stand) (u k : MergedStore) (f : FractalStore) (p : Plan) (h : CanM
   plan : HasPlan s.minimum l bs p
   plan = has_plan s.minimum l bs p (full_sound bs h.strokes) h.plan
 
-  makes : MakesAs s.minimum l bs p
-  makes = makes_as s.minimum l bs plan.stroke p plan.planned plan.planned.finds
+  makes : MakesAs s.minimum l bs p.cut p.found
+  makes = makes_as s.minimum l bs p.cut p.found plan.planned.makes plan.planned.finds
 
   pub full : Full M0.kept
   full = makes.full (full_sound bs h.strokes)
@@ -160,7 +169,7 @@ module _ (s : Stand) (u k : MergedStore) (f : FractalStore) (p : Plan) (h : CanM
   rest_in : rest_of p ≤ s.unfinished
   unfolding plan_with
   rest_in =
-      let a = rest_in-view (length bs) s.minimum (last_of (last bs)) (map candle_of l) in
+      let a = rest_in-view s.minimum (last_of (last bs)) (map candle_of l) in
       let b : rest_of p ≤ length (map candle_of l) = subst (λ (x : Plan). rest_of x ≤ length (map candle_of l)) (sym h.plan) a in
       omega (arith, length-map l candle_of, long)
 
@@ -179,18 +188,15 @@ module _ (s : Stand) (u k : MergedStore) (f : FractalStore) (p : Plan) (h : CanM
       }
 
   -- where the last stroke breaks
-  pub breaks_so : p.broken ≡ true → Breaks M0 M
-  unfolding moved_as
+  pub breaks_so : is_some p.broken ≡ true → Breaks M0 M
   breaks_so t =
       let w = last_stroke (check_bi s.minimum (drop p.cut l)).stroke plan.stroke in
-      move-breaks s.minimum l bs
-      (ap (λ (m : Moved). m.broken) plan.planned.moves ∙ ap (λ (y : Bool). (moved_as y M0 w (drop p.join l)).broken) t)
+      move-breaks s.minimum l bs (ap (λ (m : Moved). m.broken) plan.planned.moves ∙ moved_broken p.broken M0 w l t)
 
-  pub stays_so : p.broken ≡ false → M ≡ M0
-  unfolding moved_as
+  pub stays_so : is_some p.broken ≡ false → M ≡ M0
   stays_so t =
       let w = last_stroke (check_bi s.minimum (drop p.cut l)).stroke plan.stroke in
-      plan.planned.moves ∙ ap (λ (y : Bool). moved_as y M0 w (drop p.join l)) t
+      plan.planned.moves ∙ moved_stays p.broken M0 w l t
 
   room_by : (m : Moved) → m.broken ≡ 1 → T (moved_fits s.rooms.unfinished m) → length m.left ≤ s.rooms.unfinished
   unfolding moved_fits joined_fits
@@ -203,12 +209,12 @@ module _ (s : Stand) (u k : MergedStore) (f : FractalStore) (p : Plan) (h : CanM
       subst (λ (x : List Merged). length x ≤ s.rooms.unfinished) (ap (λ (m : Moved). m.left) b.is) g
 
   -- once a stroke was made, or none
-  module _ (v : Stand) (k' : MergedStore) (f' : FractalStore) (g : MadeWhere p.found.made s u k f (p.cut + p.found.start.place) p.found.bars v k' f')
+  module _ (v : Stand) (k' : MergedStore) (f' : FractalStore) (g : MadeWhere (is_some p.found) s u k f (p.cut + start_in p.found) (bars_made p.found) v k' f')
       (lb : length v.bars ≡ 65) (lf : length v.fractals ≡ 65) where
     kept_bare : kept_strokes v k' f' ≡ map bare_stroke M0.kept
     kept_bare =
         g.strokes
-        ∙ ap (λ (x : List Stroke). add_if p.found.made x (made_stroke l (p.cut + p.found.start.place) p.found.bars)) (sym (bare_kept s k f))
+        ∙ ap (λ (x : List Stroke). add_if (is_some p.found) x (made_stroke l (p.cut + start_in p.found) (bars_made p.found))) (sym (bare_kept s k f))
         ∙ sym makes.kept
 
     same_list : kept_unfinished v u ≡ l
@@ -223,11 +229,12 @@ module _ (s : Stand) (u k : MergedStore) (f : FractalStore) (p : Plan) (h : CanM
         record { some_one = r.some_one; sum = r.sum; bars = r.bars }
 
     joins_as : (b : Breaks M0 M) → joined (stored_stroke k' (last_place v) (last_bars v)) (drop (rest_of p) (kept_unfinished v u)) ≡ joined b.stroke M0.left
+    unfolding rest_of
     joins_as b =
         joined_stored b.stroke k' (last_place v) (last_bars v) (drop (rest_of p) (kept_unfinished v u)) (rows b).bars
         ∙ ap (joined b.stroke) (ap (drop (rest_of p)) same_list ∙ sym makes.left)
 
-    breaks-at : p.broken ≡ true → CanBreak v k' (drop (rest_of p) (kept_unfinished v u))
+    breaks-at : (is_some p.broken) ≡ true → CanBreak v k' (drop (rest_of p) (kept_unfinished v u))
     breaks-at t =
         let b = breaks_so t in
         let r = rows b in
@@ -296,7 +303,7 @@ module _ (s : Stand) (u k : MergedStore) (f : FractalStore) (p : Plan) (h : CanM
     unfolding without_last bar_counts last_place
     off_fewer one = omega (arith, last_sum v one)
 
-    left-broken : (r : Stand) (u' : MergedStore) → p.broken ≡ true
+    left-broken : (r : Stand) (u' : MergedStore) → (is_some p.broken) ≡ true
         → HasUnfinished (without_last v) r u' (joined (stored_stroke k' (last_place v) (last_bars v)) (drop (rest_of p) (kept_unfinished v u)))
         → (T (elements_sized (total (bar_counts v)) k') → StaySized v.unfinished u r.unfinished u') → HasLeft s u k f r u' k' f'
     left-broken r u' t q stay =
@@ -310,15 +317,16 @@ module _ (s : Stand) (u k : MergedStore) (f : FractalStore) (p : Plan) (h : CanM
         (off.strokes ∙ ap init kept_bare ∙ init-map bare_stroke M0.kept ∙ ap (λ (m : Moved). map bare_stroke m.kept) (sym b.is))
         (off_settings ∙ g.rest.settings) (off_rooms ∙ g.rest.rooms) (off_raw ∙ g.rest.raw) (off_fewer one) stay
 
-    left-kept : (r : Stand) (u' : MergedStore) → p.broken ≡ false → HasUnfinished v r u' (drop (rest_of p) (kept_unfinished v u))
+    left-kept : (r : Stand) (u' : MergedStore) → (is_some p.broken) ≡ false → HasUnfinished v r u' (drop (rest_of p) (kept_unfinished v u))
         → (T (elements_sized (total (bar_counts v)) k') → StaySized v.unfinished u r.unfinished u') → HasLeft s u k f r u' k' f'
+    unfolding rest_of
     left-kept r u' t q stay =
         let e = stays_so t in
         left-from v r u' (drop (rest_of p) (kept_unfinished v u)) q
         (ap (drop (rest_of p)) same_list ∙ sym makes.left ∙ sym (ap (λ (m : Moved). m.left) e))
         g.kept (kept_bare ∙ ap (λ (m : Moved). map bare_stroke m.kept) (sym e)) g.rest.settings g.rest.rooms g.rest.raw (omega arith) stay
 
-    left_by : (t : Bool) → p.broken ≡ t → (r : Stand) (u' : MergedStore)
+    left_by : (t : Bool) → (is_some p.broken) ≡ t → (r : Stand) (u' : MergedStore)
         → HasUnfinished (left_stand t v) r u' (left_bars t v k' (drop (rest_of p) (kept_unfinished v u)))
         → (T (elements_sized (total (bar_counts v)) k') → StaySized v.unfinished u r.unfinished u') → HasLeft s u k f r u' k' f'
     unfolding left_stand left_bars
@@ -326,23 +334,23 @@ module _ (s : Stand) (u k : MergedStore) (f : FractalStore) (p : Plan) (h : CanM
     left_by false t r u' q stay = left-kept r u' t q stay
 
     -- n unfinished bars are left
-    pub has_left : (n : ℕ) (r : Stand) (u' : MergedStore) → r ≡ with_unfinished (left_stand p.broken v) n
-        → HasUnfinished (left_stand p.broken v) (with_unfinished (left_stand p.broken v) n) u' (left_bars p.broken v k' (drop (rest_of p) (kept_unfinished v u)))
+    pub has_left : (n : ℕ) (r : Stand) (u' : MergedStore) → r ≡ with_unfinished (left_stand (is_some p.broken) v) n
+        → HasUnfinished (left_stand (is_some p.broken) v) (with_unfinished (left_stand (is_some p.broken) v) n) u' (left_bars (is_some p.broken) v k' (drop (rest_of p) (kept_unfinished v u)))
         → (T (elements_sized (total (bar_counts v)) k') → StaySized v.unfinished u n u') → HasLeft s u k f r u' k' f'
     unfolding with_unfinished
     has_left n r u' e q stay =
-        let x = with_unfinished (left_stand p.broken v) n in
-        subst (λ (y : Stand). HasLeft s u k f y u' k' f') (sym e) (left_by p.broken refl x u' q stay)
+        let x = with_unfinished (left_stand (is_some p.broken) v) n in
+        subst (λ (y : Stand). HasLeft s u k f y u' k' f') (sym e) (left_by (is_some p.broken) refl x u' q stay)
 
   -- ---- what is kept then
 
-  full_by : (t : Bool) → p.broken ≡ t → Full M.kept
+  full_by : (t : Bool) → (is_some p.broken) ≡ t → Full M.kept
   full_by true t = subst (λ (m : Moved). Full m.kept) (sym (breaks_so t).is) (full_init M0.kept full)
   full_by false t = subst (λ (m : Moved). Full m.kept) (sym (stays_so t)) full
 
   pub full_moved : Full (moved_of s u k f).kept
   unfolding moved_of
-  full_moved = full_by p.broken refl
+  full_moved = full_by (is_some p.broken) refl
 
   more_by : (t : Bool) (l : List Stroke) (b : Stroke) → length (add_if t l b) ≤ length l + 1
   unfolding add_if
@@ -351,24 +359,24 @@ module _ (s : Stand) (u k : MergedStore) (f : FractalStore) (p : Plan) (h : CanM
 
   made-few : length M0.kept ≤ length bs + 1
   made-few =
-      let a = more_by p.found.made (map bare_stroke bs) (made_stroke l (p.cut + p.found.start.place) p.found.bars) in
+      let a = more_by (is_some p.found) (map bare_stroke bs) (made_stroke l (p.cut + start_in p.found) (bars_made p.found)) in
       omega (arith, ap length makes.kept, length-map M0.kept bare_stroke, length-map bs bare_stroke)
 
-  few_by : (t : Bool) → p.broken ≡ t → length M.kept ≤ length bs + 1
+  few_by : (t : Bool) → (is_some p.broken) ≡ t → length M.kept ≤ length bs + 1
   few_by true t = let few = made-few in omega (arith, ap (λ (m : Moved). length m.kept) (breaks_so t).is, init-few M0.kept)
   few_by false t = let few = made-few in omega (arith, ap (λ (m : Moved). length m.kept) (stays_so t))
 
   pub few_moved : length (moved_of s u k f).kept ≤ length bs + 1
   unfolding moved_of
-  few_moved = few_by p.broken refl
+  few_moved = few_by (is_some p.broken) refl
 
   -- ---- the numbers, and the oldest stroke
 
-  made_by : (t : Bool) → p.broken ≡ t → M.made ≡ shed_count p.found.made
+  made_by : (t : Bool) → (is_some p.broken) ≡ t → M.made ≡ shed_count (is_some p.found)
   made_by true t = ap (λ (m : Moved). m.made) (breaks_so t).is ∙ makes.made
   made_by false t = ap (λ (m : Moved). m.made) (stays_so t) ∙ makes.made
 
-  broken_by_lem : (t : Bool) → p.broken ≡ t → M.broken ≡ shed_count t
+  broken_by_lem : (t : Bool) → (is_some p.broken) ≡ t → M.broken ≡ shed_count t
   unfolding shed_count
   broken_by_lem true t = ap (λ (m : Moved). m.broken) (breaks_so t).is
   broken_by_lem false t = ap (λ (m : Moved). m.broken) (stays_so t) ∙ make_unbroken s.minimum l bs
@@ -382,16 +390,16 @@ module _ (s : Stand) (u k : MergedStore) (f : FractalStore) (p : Plan) (h : CanM
         sym (strokes-many v k' f' lb lf g.kept.strokes) ∙ ap length g.strokes ∙ length-map (moved_of s u k f).kept bare_stroke in
         λ i. ltb (a i) (b i)
 
-    made_of_lem : (moved_of s u k f).made ≡ shed_count p.found.made
+    made_of_lem : (moved_of s u k f).made ≡ shed_count (is_some p.found)
     unfolding moved_of
-    made_of_lem = made_by p.broken refl
+    made_of_lem = made_by (is_some p.broken) refl
 
-    broken_of_lem : (moved_of s u k f).broken ≡ shed_count p.broken
+    broken_of_lem : (moved_of s u k f).broken ≡ shed_count (is_some p.broken)
     unfolding moved_of
-    broken_of_lem = broken_by_lem p.broken refl
+    broken_of_lem = broken_by_lem (is_some p.broken) refl
 
     pub has_moved : (r : Wrote) (k'' : MergedStore) (f'' : FractalStore) (over : Bool) → over ≡ ltb v.most v.strokes → ShedWhere (ltb v.most v.strokes) v k' f' r.stand k'' f''
-        → r.made ≡ shed_count p.found.made → r.broken ≡ shed_count p.broken → r.shed ≡ shed_count over → HasMoved s u k f r u' k'' f''
+        → r.made ≡ shed_count (is_some p.found) → r.broken ≡ shed_count (is_some p.broken) → r.shed ≡ shed_count over → HasMoved s u k f r u' k'' f''
     has_moved r k'' f'' over e w m b d =
         let o = over-is in
         let un = w.rest.unfinished in

@@ -19,7 +19,10 @@ use Rattle.strokes.specs.declared.Stand.{Stand}
 use Rattle.strokes.specs.StateRead.{bar_counts, total, elements_sized}
 use Rattle.strokes.specs.Lent.{FractalStore}
 use Rattle.strokes.specs.Code.BarSteps.{HasRaw, HasUnfinished, CanJoin, kept_raw, kept_unfinished, with_raw, with_unfinished, without_last, stored_stroke}
-use Rattle.strokes.specs.Code.StrokeSteps.{Kept, Made, last_place, last_bars}
+use Rattle.strokes.specs.Code.StrokeSteps.{Kept, Made, Makeable, last_place, last_bars}
+use Rattle.std.specs.Prelude.{Option, Some, is_some}
+use Rattle.check_bi.specs.declared.scan.FoundBi.{FoundBi}
+use Rattle.asking.specs.Code.FeedPlan.{start_in, bars_made}
 use Rattle.strokes.proofs.StoredStates.{kept-unfinished}
 use Rattle.strokes.proofs.StoredStrokes.{last-sums}
 use Rattle.writing.specs.Code.WriteSteps.{MadeWhere, CanBreak, add_if, left_stand, left_bars, drop_earlier}
@@ -188,3 +191,16 @@ module _ (made : Bool) (s : Stand) (u k : MergedStore) (f : FractalStore) (first
       (record { strokes = refl; kept = h; rest = record { settings = refl; rooms = refl; raw = refl; unfinished = refl }; elements = λ a b. b })
 
 -- ---- as many are kept as are counted
+
+-- a stroke that was found is made, by its place behind the cut
+pub made_found : (o : Option FoundBi) (g : FoundBi) (cut : ℕ) (s : Stand) (u k : MergedStore) (f : FractalStore) (r : Stand) (k' : MergedStore) (f' : FractalStore) → o ≡ Some g
+    → Made s u k f (cut + g.start.place) g.bars r k' f' → MadeWhere (is_some o) s u k f (cut + start_in o) (bars_made o) r k' f'
+unfolding start_in bars_made
+made_found o g cut s u k f r k' f' e h =
+    subst (λ (x : Option FoundBi). MadeWhere (is_some x) s u k f (cut + start_in x) (bars_made x) r k' f') (sym e) (made_one true s u k f (cut + g.start.place) g.bars r k' f' refl h)
+
+-- and one that was found can be made
+pub makeable_found : (o : Option FoundBi) (g : FoundBi) (cut : ℕ) (s : Stand) (u : MergedStore) → o ≡ Some g → (is_some o ≡ true → Makeable s u (cut + start_in o) (bars_made o))
+    → Makeable s u (cut + g.start.place) g.bars
+unfolding start_in bars_made
+makeable_found o g cut s u e h = subst (λ (x : Option FoundBi). is_some x ≡ true → Makeable s u (cut + start_in x) (bars_made x)) e h refl

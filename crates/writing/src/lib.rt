@@ -9,7 +9,8 @@ mod unfinished_moves;
 pub use feed_writing::write;
 use strokes::Stand;
 
-// The stand after a feed, and how many strokes it made, broke and shed.
+// The stand after a feed, and how many strokes it made, broke and shed: each none or one.
+// Kept: numbers, as the machine's events are, and as the C interface tells them.
 #[derive(Clone, Copy)]
 pub struct Wrote {
     pub stand: Stand,

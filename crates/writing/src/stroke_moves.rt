@@ -1,68 +1,47 @@
 // What a feed writes to the stroke store.
-ghost use Rattle.std.specs.Prelude.{◌≡◌, true, ◌+◌, ◌≤◌};
-ghost use Rattle.machine.specs.Feed.{shed_count};
-ghost use Rattle.strokes.specs.Lent.{fractals_held, fractals_before, fractals_after};
+ghost use Rattle.std.specs.Prelude.{◌≡◌, is_some, true, ◌+◌, ◌≤◌};
+ghost use Rattle.asking.specs.Code.FeedPlan.{start_in, bars_made};
+ghost use Rattle.stores.specs.Columns.{merged_in, merged_of, SameMerged};
+ghost use Rattle.strokes.specs.Columns.{fractals_of, SameFractals};
 ghost use Rattle.strokes.specs.Code.BarSteps.{with_unfinished};
 ghost use Rattle.writing.specs.Code.WriteSteps.{CanMake, MadeWhere, left_stand};
 ghost use Rattle.writing.specs.Code.Written.{CanMove, HasLeft, HasMoved};
-ghost use Rattle.stores.specs.Lent.{merged_held, merged_before, merged_after, merged_lent, merged_seen};
 
 use crate::Wrote;
 use crate::unfinished_moves::leave;
 use asking::Plan;
-use strokes::Stand;
+use stores::{MergedColumns, MergedColumnsMut};
+use strokes::{FractalColumnsMut, Stand};
 
 // The stroke that was found, if one was, is put on.
 pub fn make_if(
     stand: Stand,
-    ut: &[i64],
-    ui: &[i32],
-    up: &[[f64; 6]],
-    uc: &[usize],
-    ue: &[[i64; 101]],
-    st: &mut [i64],
-    si: &mut [i32],
-    sp: &mut [[f64; 6]],
-    sc: &mut [usize],
-    se: &mut [[i64; 101]],
-    fs: &mut [[i64; 6]],
-    fp: &mut [[f64; 18]],
+    unfinished: MergedColumns<'_>,
+    strokes: &mut MergedColumnsMut<'_>,
+    fractals: &mut FractalColumnsMut<'_>,
     plan: Plan,
 ) -> Stand
-    requires { CanMake stand (merged_lent ut ui up uc ue) (merged_held st si sp sc se) (fractals_held fs fp) plan }
-    ensures { MadeWhere plan.found.made stand (merged_seen ut ui up uc ue) (merged_before st si sp sc se) (fractals_before fs fp) (plan.cut + plan.found.start.place) plan.found.bars result (merged_after st si sp sc se) (fractals_after fs fp) }
+    requires { CanMake stand (merged_in unfinished) (merged_of strokes.old) (fractals_of fractals.old) plan }
+    ensures made { MadeWhere (is_some plan.found) stand (merged_in unfinished.entry) (merged_of strokes.old) (fractals_of fractals.old) (plan.cut + start_in plan.found) (bars_made plan.found) result (merged_of strokes.new) (fractals_of fractals.new) }
+    ensures same_strokes { SameMerged strokes.old strokes.new }
+    ensures same_fractals { SameFractals fractals.old fractals.new }
 {
-    let cut = plan.cut;
-    let found = plan.found;
-    let start = found.start;
-    let bars = found.bars;
-    if found.made {
-        let first = cut + start.place;
-        return stand.make_stroke(ut, ui, up, uc, ue, st, si, sp, sc, se, fs, fp, first, bars);
+    if let Some(f) = plan.found {
+        let first = plan.cut + f.start.place;
+        return stand.make_stroke(unfinished, strokes, fractals, first, f.bars);
     }
     stand
 }
 
-// One where the test holds, as a feed counts the strokes that it makes, breaks and sheds.
-fn count_of(t: bool) -> u64
-    ensures { result ≡ shed_count t }
-{
-    if t {
-        return 1;
-    }
-    0
-}
-
 // The stand once n unfinished bars are left, by whether its last stroke breaks.
-fn left_with(stand: Stand, broken: bool, n: usize) -> Stand
-    requires { broken ≡ true → 1 ≤ stand.strokes }
-    ensures { result ≡ with_unfinished (left_stand broken stand) n }
+fn left_with(stand: Stand, broken: Option<usize>, n: usize) -> Stand
+    requires { is_some broken ≡ true → 1 ≤ stand.strokes }
+    ensures { result ≡ with_unfinished (left_stand (is_some broken) stand) n }
 {
     let mut left = stand;
     left.unfinished = n;
-    if broken {
-        left.strokes = stand.strokes - 1;
-        return left;
+    if broken.is_some() {
+        left.strokes -= 1;
     }
     left
 }
@@ -70,25 +49,19 @@ fn left_with(stand: Stand, broken: bool, n: usize) -> Stand
 // The stroke that was found is put on, and the bars that the plan leaves stay.
 fn make_and_leave(
     stand: Stand,
-    ut: &mut [i64],
-    ui: &mut [i32],
-    up: &mut [[f64; 6]],
-    uc: &mut [usize],
-    ue: &mut [[i64; 101]],
-    st: &mut [i64],
-    si: &mut [i32],
-    sp: &mut [[f64; 6]],
-    sc: &mut [usize],
-    se: &mut [[i64; 101]],
-    fs: &mut [[i64; 6]],
-    fp: &mut [[f64; 18]],
+    unfinished: &mut MergedColumnsMut<'_>,
+    strokes: &mut MergedColumnsMut<'_>,
+    fractals: &mut FractalColumnsMut<'_>,
     plan: Plan,
 ) -> Stand
-    requires { CanMove stand (merged_held ut ui up uc ue) (merged_held st si sp sc se) (fractals_held fs fp) plan }
-    ensures { HasLeft stand (merged_before ut ui up uc ue) (merged_before st si sp sc se) (fractals_before fs fp) result (merged_after ut ui up uc ue) (merged_after st si sp sc se) (fractals_after fs fp) }
+    requires { CanMove stand (merged_of unfinished.old) (merged_of strokes.old) (fractals_of fractals.old) plan }
+    ensures left { HasLeft stand (merged_of unfinished.old) (merged_of strokes.old) (fractals_of fractals.old) result (merged_of unfinished.new) (merged_of strokes.new) (fractals_of fractals.new) }
+    ensures same_unfinished { SameMerged unfinished.old unfinished.new }
+    ensures same_strokes { SameMerged strokes.old strokes.new }
+    ensures same_fractals { SameFractals fractals.old fractals.new }
 {
-    let made = make_if(stand, ut, ui, up, uc, ue, st, si, sp, sc, se, fs, fp, plan);
-    let n = leave(made, ut, ui, up, uc, ue, st, si, sp, sc, se, plan);
+    let made = make_if(stand, unfinished.seen(), strokes, fractals, plan);
+    let n = leave(made, unfinished, strokes.seen(), plan);
     left_with(made, plan.broken, n)
 }
 
@@ -96,30 +69,22 @@ fn make_and_leave(
 // beyond the most goes.
 pub fn update_bi(
     stand: Stand,
-    ut: &mut [i64],
-    ui: &mut [i32],
-    up: &mut [[f64; 6]],
-    uc: &mut [usize],
-    ue: &mut [[i64; 101]],
-    st: &mut [i64],
-    si: &mut [i32],
-    sp: &mut [[f64; 6]],
-    sc: &mut [usize],
-    se: &mut [[i64; 101]],
-    fs: &mut [[i64; 6]],
-    fp: &mut [[f64; 18]],
+    unfinished: &mut MergedColumnsMut<'_>,
+    strokes: &mut MergedColumnsMut<'_>,
+    fractals: &mut FractalColumnsMut<'_>,
     plan: Plan,
 ) -> Wrote
-    requires { CanMove stand (merged_held ut ui up uc ue) (merged_held st si sp sc se) (fractals_held fs fp) plan }
-    ensures { HasMoved stand (merged_before ut ui up uc ue) (merged_before st si sp sc se) (fractals_before fs fp) result (merged_after ut ui up uc ue) (merged_after st si sp sc se) (fractals_after fs fp) }
+    requires { CanMove stand (merged_of unfinished.old) (merged_of strokes.old) (fractals_of fractals.old) plan }
+    ensures moved { HasMoved stand (merged_of unfinished.old) (merged_of strokes.old) (fractals_of fractals.old) result (merged_of unfinished.new) (merged_of strokes.new) (fractals_of fractals.new) }
+    ensures same_unfinished { SameMerged unfinished.old unfinished.new }
+    ensures same_strokes { SameMerged strokes.old strokes.new }
+    ensures same_fractals { SameFractals fractals.old fractals.new }
 {
-    let found = plan.found;
-    let made = count_of(found.made);
-    let broken = count_of(plan.broken);
-    let left = make_and_leave(stand, ut, ui, up, uc, ue, st, si, sp, sc, se, fs, fp, plan);
-    let over = left.most < left.strokes;
-    let shed = count_of(over);
-    let kept = left.shed_if(st, si, sp, sc, se, fs, fp);
+    let made = u64::from(plan.found.is_some());
+    let broken = u64::from(plan.broken.is_some());
+    let left = make_and_leave(stand, unfinished, strokes, fractals, plan);
+    let shed = u64::from(left.most < left.strokes);
+    let kept = left.shed_if(strokes, fractals);
     Wrote {
         stand: kept,
         made,

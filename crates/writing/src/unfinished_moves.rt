@@ -1,6 +1,7 @@
 // What a feed writes to the unfinished store: the bar that is merged, and the bars that are left once strokes were made or broken. Each
 // step hands back how many unfinished bars there are then, and also says that no bar comes to have more than 101 elements.
-ghost use Rattle.std.specs.Prelude.{◌≡◌, ◌≤◌, ◌<◌, drop, get_or, T};
+ghost use Rattle.std.specs.Prelude.{◌≡◌, is_some, ◌≤◌, drop, T};
+ghost use Rattle.stores.specs.Columns.{raw_in, merged_in, merged_of, SameMerged};
 ghost use Rattle.stores.specs.Code.StoreRows.{SizedMerged};
 ghost use Rattle.machine.specs.Break.{joined};
 ghost use Rattle.strokes.specs.Code.BarSteps.{HasUnfinished, kept_unfinished, with_unfinished, without_last, stored_stroke};
@@ -8,121 +9,84 @@ ghost use Rattle.strokes.specs.Code.StrokeSteps.{last_place, last_bars};
 ghost use Rattle.strokes.specs.StateRead.{bar_counts, total, elements_sized};
 ghost use Rattle.strokes.specs.Code.ElementCounts.{StaySized};
 ghost use Rattle.writing.specs.Code.WriteSteps.{CanPut, merged_from, CanBreak, CanLeave, left_stand, left_bars, rest_of};
-ghost use Rattle.stores.specs.Lent.{merged_held, merged_before, merged_after, raw_lent, raw_seen, merged_lent, merged_seen};
 
 use asking::Plan;
 use bars::Bar;
+use stores::{MergedColumns, MergedColumnsMut, RawColumns};
 use strokes::Stand;
 
 // A bar that passed its questions is merged into the unfinished bars. The raw store is as it was before the bar came.
 pub fn put_bar(
     stand: Stand,
-    rt: &[i64],
-    ri: &[i32],
-    rp: &[[f64; 6]],
-    ut: &mut [i64],
-    ui: &mut [i32],
-    up: &mut [[f64; 6]],
-    uc: &mut [usize],
-    ue: &mut [[i64; 101]],
+    raw: RawColumns<'_>,
+    unfinished: &mut MergedColumnsMut<'_>,
     later: bool,
     b: Bar,
 ) -> usize
-    requires { CanPut stand (raw_lent rt ri rp) (merged_held ut ui up uc ue) later b }
-    ensures { (HasUnfinished stand (with_unfinished stand result) (merged_after ut ui up uc ue) (merged_from later stand (raw_seen rt ri rp) (merged_before ut ui up uc ue) b)) × (StaySized stand.unfinished (merged_before ut ui up uc ue) result (merged_after ut ui up uc ue)) }
+    requires { CanPut stand (raw_in raw) (merged_of unfinished.old) later b }
+    ensures has { HasUnfinished stand (with_unfinished stand result) (merged_of unfinished.new) (merged_from later stand (raw_in raw.entry) (merged_of unfinished.old) b) }
+    ensures sized { StaySized stand.unfinished (merged_of unfinished.old) result (merged_of unfinished.new) }
+    ensures same { SameMerged unfinished.old unfinished.new }
 {
     if later {
-        return stand.put_merged(ut, ui, up, uc, ue, b);
+        return stand.put_merged(unfinished, b);
     }
-    stand.put_again(rt, ri, rp, ut, ui, up, uc, ue, b)
+    stand.put_again(raw, unfinished, b)
 }
 
 // The unfinished bars begin at place k.
-fn begin_from(
-    stand: Stand,
-    ut: &mut [i64],
-    ui: &mut [i32],
-    up: &mut [[f64; 6]],
-    uc: &mut [usize],
-    ue: &mut [[i64; 101]],
-    k: usize,
-) -> usize
-    requires fact_1 { SizedMerged (merged_held ut ui up uc ue) stand.rooms.unfinished }
+fn begin_from(stand: Stand, unfinished: &mut MergedColumnsMut<'_>, k: usize) -> usize
+    requires fact_1 { SizedMerged (merged_of unfinished.old) stand.rooms.unfinished }
     requires fact_2 { stand.unfinished ≤ stand.rooms.unfinished }
     requires fact_3 { k ≤ stand.unfinished }
-    ensures { (HasUnfinished stand (with_unfinished stand result) (merged_after ut ui up uc ue) (drop k (kept_unfinished stand (merged_before ut ui up uc ue)))) × (StaySized stand.unfinished (merged_before ut ui up uc ue) result (merged_after ut ui up uc ue)) }
+    ensures has { HasUnfinished stand (with_unfinished stand result) (merged_of unfinished.new) (drop k (kept_unfinished stand (merged_of unfinished.old))) }
+    ensures sized { StaySized stand.unfinished (merged_of unfinished.old) result (merged_of unfinished.new) }
+    ensures same { SameMerged unfinished.old unfinished.new }
 {
     if k == 0 {
         return stand.unfinished;
     }
-    stand.begin_at(ut, ui, up, uc, ue, k)
-}
-
-// How many bars stroke n has.
-fn bars_at(counts: [u32; 65], n: usize) -> usize
-    requires { n < 65 }
-    ensures { result ≡ get_or counts n 0 }
-{
-    counts[n] as usize
+    stand.begin_at(unfinished, k)
 }
 
 // The last stroke, whose bars stand in the stroke store, breaks.
 fn join_last(
     stand: Stand,
-    ut: &mut [i64],
-    ui: &mut [i32],
-    up: &mut [[f64; 6]],
-    uc: &mut [usize],
-    ue: &mut [[i64; 101]],
-    st: &[i64],
-    si: &[i32],
-    sp: &[[f64; 6]],
-    sc: &[usize],
-    se: &[[i64; 101]],
+    unfinished: &mut MergedColumnsMut<'_>,
+    strokes: MergedColumns<'_>,
 ) -> usize
-    requires fact_1 { SizedMerged (merged_held ut ui up uc ue) stand.rooms.unfinished }
-    requires fact_2 { SizedMerged (merged_lent st si sp sc se) stand.rooms.strokes }
+    requires fact_1 { SizedMerged (merged_of unfinished.old) stand.rooms.unfinished }
+    requires fact_2 { SizedMerged (merged_in strokes) stand.rooms.strokes }
     requires fact_3 { stand.unfinished ≤ stand.rooms.unfinished }
-    requires fact_4 { CanBreak stand (merged_lent st si sp sc se) (kept_unfinished stand (merged_held ut ui up uc ue)) }
-    ensures has_unfinished { HasUnfinished (without_last stand) (with_unfinished (without_last stand) result) (merged_after ut ui up uc ue) (joined (stored_stroke (merged_seen st si sp sc se) (last_place stand) (last_bars stand)) (kept_unfinished stand (merged_before ut ui up uc ue))) }
-    ensures stay_sized { T (elements_sized (total (bar_counts stand)) (merged_seen st si sp sc se)) → StaySized stand.unfinished (merged_before ut ui up uc ue) result (merged_after ut ui up uc ue) }
+    requires fact_4 { CanBreak stand (merged_in strokes) (kept_unfinished stand (merged_of unfinished.old)) }
+    ensures has_unfinished { HasUnfinished (without_last stand) (with_unfinished (without_last stand) result) (merged_of unfinished.new) (joined (stored_stroke (merged_in strokes.entry) (last_place stand) (last_bars stand)) (kept_unfinished stand (merged_of unfinished.old))) }
+    ensures stay_sized { T (elements_sized (total (bar_counts stand)) (merged_in strokes.entry)) → StaySized stand.unfinished (merged_of unfinished.old) result (merged_of unfinished.new) }
+    ensures same { SameMerged unfinished.old unfinished.new }
 {
-    let counts = stand.bars;
     let n = stand.strokes - 1;
-    let at = strokes::total_bars(counts, n);
-    let rows = bars_at(counts, n);
-    stand.join_broken(ut, ui, up, uc, ue, st, si, sp, sc, se, at, rows)
+    let at = strokes::total_bars(stand.bars, n);
+    let rows = stand.bars[n] as usize;
+    stand.join_broken(unfinished, strokes, at, rows)
 }
 
 // The unfinished bars that the plan leaves: those from the found stroke's end on, and where the last stroke breaks, its bars before them.
 pub fn leave(
     stand: Stand,
-    ut: &mut [i64],
-    ui: &mut [i32],
-    up: &mut [[f64; 6]],
-    uc: &mut [usize],
-    ue: &mut [[i64; 101]],
-    st: &[i64],
-    si: &[i32],
-    sp: &[[f64; 6]],
-    sc: &[usize],
-    se: &[[i64; 101]],
+    unfinished: &mut MergedColumnsMut<'_>,
+    strokes: MergedColumns<'_>,
     plan: Plan,
 ) -> usize
-    requires { CanLeave stand (merged_held ut ui up uc ue) (merged_lent st si sp sc se) plan }
-    ensures has_unfinished { HasUnfinished (left_stand plan.broken stand) (with_unfinished (left_stand plan.broken stand) result) (merged_after ut ui up uc ue) (left_bars plan.broken stand (merged_seen st si sp sc se) (drop (rest_of plan) (kept_unfinished stand (merged_before ut ui up uc ue)))) }
-    ensures stay_sized { T (elements_sized (total (bar_counts stand)) (merged_seen st si sp sc se)) → StaySized stand.unfinished (merged_before ut ui up uc ue) result (merged_after ut ui up uc ue) }
+    requires { CanLeave stand (merged_of unfinished.old) (merged_in strokes) plan }
+    ensures has_unfinished { HasUnfinished (left_stand (is_some plan.broken) stand) (with_unfinished (left_stand (is_some plan.broken) stand) result) (merged_of unfinished.new) (left_bars (is_some plan.broken) stand (merged_in strokes.entry) (drop (rest_of plan) (kept_unfinished stand (merged_of unfinished.old)))) }
+    ensures stay_sized { T (elements_sized (total (bar_counts stand)) (merged_in strokes.entry)) → StaySized stand.unfinished (merged_of unfinished.old) result (merged_of unfinished.new) }
+    ensures same { SameMerged unfinished.old unfinished.new }
 {
-    let cut = plan.cut;
-    let broken = plan.broken;
-    let found = plan.found;
-    let end = found.end;
-    let rest = cut + end.place;
-    let n = begin_from(stand, ut, ui, up, uc, ue, rest);
-    if broken {
+    let rest = plan.cut + asking::end_in(plan.found);
+    let n = begin_from(stand, unfinished, rest);
+    if plan.broken.is_some() {
         let mut left = stand;
         left.unfinished = n;
-        return join_last(left, ut, ui, up, uc, ue, st, si, sp, sc, se);
+        return join_last(left, unfinished, strokes);
     }
     n
 }

@@ -4,7 +4,7 @@ use Prim.Native.Nat.{ℕ, zero, suc, ◌+◌, ◌-◌, ◌*◌, ◌/◌, ◌≤�
 use native.Mathlib.Omega.{arith}
 use mathlib.Core.Path.{◌≡◌, refl, ap, sym, ◌∙◌}
 use mathlib.Core.List.{List, [], ◌∷◌, map}
-use lib.ListN.{length, take, get_or, set, length-set}
+use lib.ListN.{length, take, get_or, set}
 use Rattle.machine.specs.Fractals.{Fractal}
 use Rattle.machine.specs.declared.Mark.{Mark}
 use Rattle.check_bi.specs.declared.check_fx.Candle.{Candle}
@@ -19,7 +19,9 @@ use Rattle.zones.specs.Code.FakeOfTwo.{fake_of_two, fake_count}
 use Rattle.zones.specs.Code.StrokesRead.{stroke_place, fractal_number, items_from, StrokeStands}
 use Rattle.named.specs.Code.NamedRows.{mark_at, middle_at}
 use Rattle.zones.specs.FakeRows.{fake_times, fake_prices, fake_code, FakeColumns, fake_columns, put_fakes}
-use Rattle.zones.specs.Code.FakeSteps.{fake_at, read_fakes, RoomFakes}
+use Rattle.zones.specs.Code.FakeSteps.{fake_at, read_fakes}
+use Rattle.zones.specs.declared.lent_rows.RowsMut.{RowsMut}
+use Rattle.zones.specs.Columns.{fakes_of, RoomRows}
 use Rattle.zones.proofs.FakesOfTwo.{fake_of-two, even-length}
 use Rattle.zones.proofs.StrokesReadLaws.{fractals_at, mark-at, middle-at, fractals-length}
 use Rattle.zones.proofs.Items.{items_same, items_map, put_none, row-turn}
@@ -101,40 +103,25 @@ unfolding fake_at mark_at
 fake_read_lem places f p m a b r em ea eb er = er ∙ (λ i. fake_of_two places (em i) (ea i) (eb i))
 
 -- the columns d after the first j
-pub record Writing (places : ℕ) (f : FractalStore) (p : ℕ) (d w : FakeColumns) (j : ℕ) : Type 0 where
-  pub columns : w ≡ put_fakes d (items_from (fake_at places f) p j)
-  pub times : length w.times ≡ length d.times
-  pub prices : length w.prices ≡ length d.prices
-  pub codes : length w.codes ≡ length d.codes
-
-pub writing-none : (places : ℕ) (f : FractalStore) (p : ℕ) (d : FakeColumns) → Writing places f p d d 0
+pub writing-none : (places : ℕ) (f : FractalStore) (p : ℕ) (d : FakeColumns) → d ≡ put_fakes d (items_from (fake_at places f) p 0)
 unfolding put_fakes items_from
-writing-none places f p d = record { columns = λ i. fake_columns (put_none d.times i) (put_none d.prices i) (put_none d.codes i); times = refl; prices = refl; codes = refl }
+writing-none places f p d = λ i. fake_columns (put_none d.times i) (put_none d.prices i) (put_none d.codes i)
 
-pub writing-turn : (places : ℕ) (f : FractalStore) (p j n : ℕ) (d w w' : FakeColumns) (k : FakeStroke) → RoomFakes d n → j < n → Writing places f p d w j → k ≡ fake_at places f (p + j)
-    → w' ≡ fake_columns (set w.times j (fake_times k)) (set w.prices j (fake_prices k)) (set w.codes j (fake_code k))
-    → Writing places f p d w' (j + 1)
+pub writing-turn : (places : ℕ) (f : FractalStore) (p j n : ℕ) (d w w' : RowsMut 3 ℕ) (k : FakeStroke) → RoomRows d n → j < n → fakes_of w ≡ put_fakes (fakes_of d) (items_from (fake_at places f) p j) → k ≡ fake_at places f (p + j)
+    → w'.times.now ≡ set w.times.now j (fake_times k)
+    → w'.prices.now ≡ set w.prices.now j (fake_prices k)
+    → w'.kinds.now ≡ set w.kinds.now j (fake_code k)
+    → fakes_of w' ≡ put_fakes (fakes_of d) (items_from (fake_at places f) p (j + 1))
 unfolding put_fakes
-writing-turn places f p j n d w w' k room h g e q =
+writing-turn places f p j n d w w' k room h c e t q u =
     let g1 = room.times in
     let g2 = room.prices in
-    let g3 = room.codes in
-    let c = g.columns in
-    record {
-      columns =
-          q
-          ∙ (λ i.
-          fake_columns
-          (row-turn fake_times (fake_at places f) d.times w.times p j (fake_times k) (ap (λ (x : FakeColumns). x.times) c) (omega arith) (ap fake_times e) i)
-          (row-turn fake_prices (fake_at places f) d.prices w.prices p j (fake_prices k) (ap (λ (x : FakeColumns). x.prices) c) (omega arith) (ap fake_prices e) i)
-          (row-turn fake_code (fake_at places f) d.codes w.codes p j (fake_code k) (ap (λ (x : FakeColumns). x.codes) c) (omega arith) (ap fake_code e) i));
-      times = ap (λ (x : FakeColumns). length x.times) q ∙ length-set w.times j (fake_times k) ∙ g.times;
-      prices = ap (λ (x : FakeColumns). length x.prices) q ∙ length-set w.prices j (fake_prices k) ∙ g.prices;
-      codes = ap (λ (x : FakeColumns). length x.codes) q ∙ length-set w.codes j (fake_code k) ∙ g.codes;
-    }
-
-pub writing-end : (places : ℕ) (f : FractalStore) (p j n : ℕ) (d w : FakeColumns) → j ≤ n → n ≤ j → Writing places f p d w j → w ≡ put_fakes d (items_from (fake_at places f) p n)
-writing-end places f p j n d w h k g = let q : j ≡ n = omega arith in g.columns ∙ ap (λ (x : ℕ). put_fakes d (items_from (fake_at places f) p x)) q
+    let g3 = room.kinds in
+    λ i.
+    fake_columns
+    ((t ∙ row-turn fake_times (fake_at places f) d.times.now w.times.now p j (fake_times k) (ap (λ (x : FakeColumns). x.times) c) (omega arith) (ap fake_times e)) i)
+    ((q ∙ row-turn fake_prices (fake_at places f) d.prices.now w.prices.now p j (fake_prices k) (ap (λ (x : FakeColumns). x.prices) c) (omega arith) (ap fake_prices e)) i)
+    ((u ∙ row-turn fake_code (fake_at places f) d.kinds.now w.kinds.now p j (fake_code k) (ap (λ (x : FakeColumns). x.codes) c) (omega arith) (ap fake_code e)) i)
 
 -- those of a stroke, by the numbers that the code has computed
 pub put_done : (s : Stand) (f : FractalStore) (i place n : ℕ) (d w : FakeColumns) → place ≡ total (take i s.bars) → n ≡ fake_count (get_or s.fractals i 0)
@@ -149,6 +136,3 @@ rows_fit s f i place n h ep en =
     let b = h.prices in
     let less = count_less (get_or s.fractals i 0) h.some in
     record { stamps = omega arith; prices = omega arith }
-
-pub room-fakes : (d w : FakeColumns) (n j : ℕ) → RoomFakes d n → length w.times ≡ length d.times → length w.prices ≡ length d.prices → length w.codes ≡ length d.codes → j < n → RoomFakes w (j + 1)
-room-fakes d w n j r a b e h = let x = r.times in let y = r.prices in let z = r.codes in record { times = omega arith; prices = omega arith; codes = omega arith }

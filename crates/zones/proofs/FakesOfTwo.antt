@@ -2,7 +2,9 @@
 -- Assumes nothing.
 use Prim.Native.Nat.{ℕ, suc, ◌*◌, ◌/◌, ◌-◌}
 use native.Mathlib.Omega.{arith}
-use mathlib.Core.Path.{◌≡◌, refl, ap, ◌∙◌}
+use mathlib.Core.Path.{◌≡◌, refl, ap, sym, ◌∙◌}
+use lib.IntN.{ℤ}
+use lib.Ieee.{Float, binary64, sub}
 use mathlib.Core.List.{List, [], ◌∷◌}
 use lib.ListN.{length, length-map}
 use Rattle.bars.specs.Bars.{Merged}
@@ -10,6 +12,9 @@ use Rattle.machine.specs.declared.Mark.{Mark}
 use Rattle.machine.specs.declared.Mark.TheVariants.{D, G}
 use Rattle.machine.specs.Fractals.{Fractal, time_of}
 use Rattle.machine.specs.Strokes.{direction_of}
+use Rattle.machine.specs.declared.Direction.{Direction}
+use Rattle.arith.specs.Rounding.{round_to}
+use Rattle.check_bi.specs.declared.check_fx.Candle.{Candle}
 use Rattle.check_bi.specs.Code.Scan.{candle_of}
 use Rattle.zones.specs.FakeStrokes.{Fake, even_part, pairs, fakes, fake_direction, fake_with, fake_from, fake_of, create_fake_bis}
 use Rattle.zones.specs.Code.FakeOfTwo.{fake_of_two, fake_count}
@@ -51,3 +56,18 @@ fakes-length (a ∷ b ∷ l) = ap suc (pairs-length b (even_part l) ∙ even-len
 pub fake-count : (d : ℕ) (l : List Fractal) → length (create_fake_bis d l) ≡ fake_count (length l)
 unfolding create_fake_bis
 fake-count d l = length-map (fakes l) (fake_of d) ∙ fakes-length l
+
+-- ---- a fake stroke that the code has made, by the mark of its first fractal
+
+module _ (places : ℕ) (m : Mark) (a b : Candle) (d : Direction) (t u : ℤ) (h l p : Float) (ed : d ≡ direction_of m) (et : t ≡ a.time) (eu : u ≡ b.time) (ep : p ≡ round_to places (sub binary64 h l)) where
+  pub up_made : m ≡ D → h ≡ b.high → l ≡ a.low → record { direction = d; sdt = t; edt = u; high = h; low = l; power = p } ≡ fake_of_two places m a b
+  unfolding fake_of_two direction_of
+  up_made e x y =
+      (λ i. record { direction = (ed ∙ ap direction_of e) i; sdt = et i; edt = eu i; high = x i; low = y i; power = (ep ∙ (λ j. round_to places (sub binary64 (x j) (y j)))) i })
+      ∙ sym (ap (λ (k : Mark). fake_of_two places k a b) e)
+
+  pub down_made : m ≡ G → h ≡ a.high → l ≡ b.low → record { direction = d; sdt = t; edt = u; high = h; low = l; power = p } ≡ fake_of_two places m a b
+  unfolding fake_of_two direction_of
+  down_made e x y =
+      (λ i. record { direction = (ed ∙ ap direction_of e) i; sdt = et i; edt = eu i; high = x i; low = y i; power = (ep ∙ (λ j. round_to places (sub binary64 (x j) (y j)))) i })
+      ∙ sym (ap (λ (k : Mark). fake_of_two places k a b) e)

@@ -4,9 +4,12 @@ pub mod Demand3
 pub mod FakesOfTwo
 pub mod ZoneFolds
 pub mod RunFolds
+pub mod RunGoes
 pub mod StrokesReadLaws
 pub mod RunReads
 pub mod Items
+pub mod RowCodes
+pub mod Rows
 pub mod FakeReads
 pub mod ZoneStates
 pub mod ZoneWalks

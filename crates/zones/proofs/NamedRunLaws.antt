@@ -20,13 +20,18 @@ use Rattle.question4.proofs.Question4Passed.{is-sound}
 use Rattle.arith.proofs.Tests.{holds}
 use Rattle.named.specs.ReportQuestions.{exists, run_exists, stroke_exists, fractals_of, question14}
 use Rattle.zones.specs.declared.FakeStroke.{FakeStroke}
-use Rattle.zones.specs.BisUpDown.{is_bis_up, is_bis_down}
+use Rattle.bars.specs.declared.refusals.Question.{Question}
+use Rattle.bars.specs.declared.refusals.Question.TheVariants.{MinimumLength, MostStrokes, Rooms, Sound, Time, Prices, Volumes, LowAtMostHigh, NotEarlier, RawRoom, UnfinishedRoom, StrokeRoom, Exists, OutputRoom, Summary, Places, Record, Digits}
+use Rattle.bars.specs.Refusals.{number}
+use Rattle.machine.specs.declared.Direction.{Direction}
+use Rattle.machine.specs.declared.Direction.TheVariants.{Up, Down}
+use Rattle.zones.specs.BisUpDown.{goes}
 use Rattle.zones.specs.FakeStrokes.{create_fake_bis}
 use Rattle.zones.specs.Code.FakeOfTwo.{fake_count}
 use Rattle.zones.specs.Code.StrokesRead.{stroke_place, fractal_number, read_run, StrokeStands, RunStands}
-use Rattle.zones.specs.NamedRuns.{failed_if, run_failed, named_run, answer_if, bis_up_answer, bis_down_answer}
+use Rattle.zones.specs.NamedRuns.{failed_if, run_failed, named_run, run_answer, answer_if, bis_up_answer, bis_down_answer, bis_answer}
 use Rattle.zones.specs.FakeRows.{FakeColumns, put_fakes}
-use Rattle.zones.specs.Code.FakeSteps.{read_fakes, fake_at, RoomFakes}
+use Rattle.zones.specs.Code.FakeSteps.{read_fakes, fake_at}
 use Rattle.zones.specs.ListedFakes.{fakes_of, stroke_failed, fakes_fit, FakesCall, fakes_call, fakes_if, fakes_after, listed_fakes}
 use Rattle.zones.proofs.StrokesReadLaws.{stroke-is, stroke-stands, run-stands, run_read}
 use Rattle.zones.proofs.Items.{items_length}
@@ -39,6 +44,12 @@ unfolding failed_if
 passed_if true true e = (refl, refl)
 passed_if true false e = let w : ⊥ = omega arith in absurd w
 passed_if false b e = let w : ⊥ = omega arith in absurd w
+
+-- either of the two answers, by the way that is asked
+bis_is : (d : Direction) (s : Stand) (m : Stores) (first count : ℕ) → bis_answer d s m first count ≡ answer_if (run_failed s m first count) (goes d (named_run s m first count))
+unfolding bis_answer bis_up_answer bis_down_answer goes
+bis_is Up s m first count = refl
+bis_is Down s m first count = refl
 
 module _ (s : Stand) (m : Stores) (lb : length s.bars ≡ 65) (lf : length s.fractals ≡ 65) (first count : ℕ) where
   -- whether a run exists is asked of the stand's count
@@ -81,29 +92,40 @@ module _ (s : Stand) (m : Stores) (lb : length s.bars ≡ 65) (lf : length s.fra
     unfolding named_run
     named-is = run_read s m lb lf sound-here first count run_fits
 
-    pub up-answered : (r : Bool) → r ≡ is_bis_up (read_run s m.fractals first count) → record { failed = 0; answer = r } ≡ bis_up_answer s m first count
-    unfolding bis_up_answer answer_if
-    up-answered r q =
-        ap (λ (x : Bool). answer_if 0 x) (q ∙ ap is_bis_up named-is) ∙ ap (λ (x : ℕ). answer_if x (is_bis_up (named_run s m first count))) (sym z ∙ e)
+    pub way-answered : (d : Direction) (r : Bool) → r ≡ goes d (read_run s m.fractals first count) → run_answer 0 r ≡ bis_answer d s m first count
+    unfolding answer_if
+    way-answered d r q =
+        ap (λ (x : Bool). answer_if 0 x) (q ∙ ap (goes d) named-is) ∙ ap (λ (x : ℕ). answer_if x (goes d (named_run s m first count))) (sym z ∙ e) ∙ sym (bis_is d s m first count)
 
-    pub down-answered : (r : Bool) → r ≡ is_bis_down (read_run s m.fractals first count) → record { failed = 0; answer = r } ≡ bis_down_answer s m first count
-    unfolding bis_down_answer answer_if
-    down-answered r q =
-        ap (λ (x : Bool). answer_if 0 x) (q ∙ ap is_bis_down named-is) ∙ ap (λ (x : ℕ). answer_if x (is_bis_down (named_run s m first count))) (sym z ∙ e)
+-- a refusal has a number
+pub number_some : (q : Question) → number q ≡ 0 → ⊥
+number_some MinimumLength e = omega arith
+number_some MostStrokes e = omega arith
+number_some Rooms e = omega arith
+number_some Sound e = omega arith
+number_some Time e = omega arith
+number_some Prices e = omega arith
+number_some Volumes e = omega arith
+number_some LowAtMostHigh e = omega arith
+number_some NotEarlier e = omega arith
+number_some RawRoom e = omega arith
+number_some UnfinishedRoom e = omega arith
+number_some StrokeRoom e = omega arith
+number_some Exists e = omega arith
+number_some OutputRoom e = omega arith
+number_some Summary e = omega arith
+number_some Places e = omega arith
+number_some Record e = omega arith
+number_some Digits e = omega arith
 
--- a refusal
-refusal : (n : ℕ) (b : Bool) → (n ≡ 0 → ⊥) → record { failed = n; answer = false } ≡ answer_if n b
+refusal : (n : ℕ) (b : Bool) → (n ≡ 0 → ⊥) → run_answer n false ≡ answer_if n b
 unfolding answer_if
 refusal zero b h = absurd (h refl)
 refusal (suc n) b h = refl
 
-pub up-refused : (s : Stand) (m : Stores) (first count n : ℕ) → n ≡ run_failed s m first count → (n ≡ 0 → ⊥) → record { failed = n; answer = false } ≡ bis_up_answer s m first count
-unfolding bis_up_answer
-up-refused s m first count n e h = refusal n (is_bis_up (named_run s m first count)) h ∙ ap (λ (x : ℕ). answer_if x (is_bis_up (named_run s m first count))) e
-
-pub down-refused : (s : Stand) (m : Stores) (first count n : ℕ) → n ≡ run_failed s m first count → (n ≡ 0 → ⊥) → record { failed = n; answer = false } ≡ bis_down_answer s m first count
-unfolding bis_down_answer
-down-refused s m first count n e h = refusal n (is_bis_down (named_run s m first count)) h ∙ ap (λ (x : ℕ). answer_if x (is_bis_down (named_run s m first count))) e
+pub way-refused : (d : Direction) (s : Stand) (m : Stores) (first count : ℕ) (q : Question) → number q ≡ run_failed s m first count → run_answer (number q) false ≡ bis_answer d s m first count
+way-refused d s m first count q e =
+    refusal (number q) (goes d (named_run s m first count)) (number_some q) ∙ ap (λ (x : ℕ). answer_if x (goes d (named_run s m first count))) e ∙ sym (bis_is d s m first count)
 
 -- ---- the fake strokes of a stroke
 
@@ -135,9 +157,9 @@ unfolding fakes_after
 fakes_refusal zero d l h = absurd (h refl)
 fakes_refusal (suc n) d l h = refl
 
-pub fakes-refused : (s : Stand) (m : Stores) (place n : ℕ) (d : FakeColumns) → n ≡ run_failed s m place 1 → (n ≡ 0 → ⊥) → fakes_call n 0 d ≡ listed_fakes s m place d
+pub fakes-refused : (s : Stand) (m : Stores) (place : ℕ) (q : Question) (d : FakeColumns) → number q ≡ run_failed s m place 1 → fakes_call (number q) 0 d ≡ listed_fakes s m place d
 unfolding listed_fakes
-fakes-refused s m place n d e h = fakes_refusal n d (fakes_of s m place) h ∙ ap (λ (x : ℕ). fakes_after x d (fakes_of s m place)) (e ∙ stroke-run s m place)
+fakes-refused s m place q d e = fakes_refusal (number q) d (fakes_of s m place) (number_some q) ∙ ap (λ (x : ℕ). fakes_after x d (fakes_of s m place)) (e ∙ stroke-run s m place)
 
 -- ---- question 14
 
@@ -158,11 +180,6 @@ three_fit n a b c e =
     (leb→le n a (holds k.0), leb→le n b (holds k.1), leb→le n c (holds k.2))
 
 module _ (s : Stand) (f : FractalStore) (i n : ℕ) (d : FakeColumns) (b : Bool) (en : n ≡ fake_count (fractal_number s i)) (eb : b ≡ (leb n (length d.times) && (leb n (length d.prices) && leb n (length d.codes)))) where
-  pub fakes-room : b ≡ true → RoomFakes d (fake_count (fractal_number s i))
-  fakes-room t =
-      let k = three_fit n (length d.times) (length d.prices) (length d.codes) (sym eb ∙ t) in
-      subst (RoomFakes d) en (record { times = k.0; prices = k.1; codes = k.2 })
-
   pub fakes_put : (r : ℕ) (w : FakeColumns) → b ≡ true → r ≡ fake_count (fractal_number s i) → w ≡ put_fakes d (read_fakes s f i)
       → fakes_call 0 r w ≡ fakes_if (fakes_fit d (read_fakes s f i)) d (read_fakes s f i)
   unfolding fakes_if read_fakes

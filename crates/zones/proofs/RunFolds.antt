@@ -3,7 +3,7 @@
 use Prim.Native.Nat.{ℕ, zero, suc, ◌+◌, ◌%◌}
 use native.Mathlib.Omega.{arith}
 use mathlib.Core.Path.{◌≡◌, refl, ap, sym, ◌∙◌}
-use mathlib.Core.Bool.{Bool, true, not, ◌&&◌, ◌||◌}
+use mathlib.Core.Bool.{Bool, true, ◌&&◌}
 use mathlib.Core.List.{List, [], ◌∷◌, foldl}
 use lib.ListN.{length}
 use lib.Dec.{leb, eqb, leb-zero, leb-suc-suc}
@@ -13,26 +13,44 @@ use Rattle.arith.specs.Order.{max_of, min_of}
 use Rattle.bars.specs.Lists as Lists
 use Rattle.named.specs.Folds.{greatest, least}
 use Rattle.zones.specs.declared.Summary.{Summary}
+use Rattle.machine.specs.declared.Direction.{Direction}
+use Rattle.machine.specs.declared.Direction.TheVariants.{Up, Down}
+use Rattle.zones.specs.declared.runs_of_strokes.StrokeCount.{StrokeCount}
+use Rattle.zones.specs.declared.runs_of_strokes.StrokeCount.TheVariants.{One, Even}
 use Rattle.zones.specs.declared.runs_of_strokes.GrowingRun.{GrowingRun}
 use Rattle.zones.specs.Zones.{highs, lows, gg, dd, last_from}
-use Rattle.zones.specs.BisUpDown.{chronological, is_run, up_from, down_from, is_bis_up, is_bis_down}
-use Rattle.zones.specs.Code.GrowingRun.{begun, in_order_with, three_with, more_of, run_of, is_run_of, up_of, down_of}
+use Rattle.zones.specs.BisUpDown.{chronological, is_run, up_from, down_from, is_bis_up, is_bis_down, goes}
+use Rattle.zones.specs.Code.GrowingRun.{begun, in_order_with, longer, is_odd_from_three, more_of, run_of, is_run_of, up_of, down_of, goes_of}
 use Rattle.arith.proofs.Tests.{and_true, and_assoc}
 
 -- ---- how many strokes
 
-odd_step : (k : ℕ) → not (eqb (k % 2) 1) ≡ eqb (suc k % 2) 1
-odd_step zero = refl
-odd_step (suc zero) = refl
-odd_step (suc (suc k)) = ap (λ (m : ℕ). not (eqb m 1)) (two k) ∙ odd_step k ∙ ap (λ (m : ℕ). eqb m 1) (sym (two (suc k)))
+-- of k strokes; of none it is not asked
+class : ℕ → StrokeCount
+unfolding longer
+class zero = Even
+class (suc zero) = One
+class (suc (suc k)) = longer (class (suc k))
+
+stable : (k : ℕ) → longer (longer (class (suc (suc k)))) ≡ class (suc (suc k))
+unfolding longer class
+stable zero = refl
+stable (suc k) = ap longer (stable k)
+
+odd_is : (k : ℕ) → is_odd_from_three (class (suc (suc k))) ≡ eqb (suc (suc k) % 2) 1
+unfolding longer is_odd_from_three class
+odd_is zero = refl
+odd_is (suc zero) = refl
+odd_is (suc (suc k)) = ap is_odd_from_three (stable k) ∙ odd_is k ∙ ap (λ (m : ℕ). eqb m 1) (sym (two (suc (suc k))))
   where
     two : (n : ℕ) → suc (suc n) % 2 ≡ n % 2
     two n = omega arith
 
-three-step : (k : ℕ) → leb 3 (suc k) || not (eqb (suc k % 2) 1) ≡ leb 3 (suc (suc k))
-three-step zero = refl
-three-step (suc zero) = refl
-three-step (suc (suc k)) = ap (λ (b : Bool). b || not (eqb (suc (suc (suc k)) % 2) 1)) (many k) ∙ sym (many (suc k))
+class_is : (k : ℕ) → is_odd_from_three (class (suc k)) ≡ leb 3 (suc k) && eqb (suc k % 2) 1
+unfolding longer is_odd_from_three class
+class_is zero = refl
+class_is (suc zero) = refl
+class_is (suc (suc k)) = odd_is (suc k) ∙ sym (ap (λ (b : Bool). b && eqb (suc (suc (suc k)) % 2) 1) (many k))
   where
     many : (n : ℕ) → leb 3 (suc (suc (suc n))) ≡ true
     many n = leb-suc-suc 2 (suc (suc n)) ∙ leb-suc-suc 1 (suc n) ∙ leb-suc-suc 0 n ∙ leb-zero n
@@ -40,7 +58,7 @@ three-step (suc (suc k)) = ap (λ (b : Bool). b || not (eqb (suc (suc (suc k)) %
 -- ---- the run after k strokes, and after those of a list
 
 abbrev after : Summary → ℕ → Summary → Bool → Float → Float → GrowingRun
-after a k x t u v = record { first = a; last = x; odd = eqb (k % 2) 1; three = leb 3 k; in_order = t; gg = u; dd = v }
+after a k x t u v = record { first = a; last = x; count = class k; in_order = t; gg = u; dd = v }
 
 abbrev counted : ℕ → List Summary → ℕ
 counted k [] = k
@@ -58,10 +76,8 @@ counted_is k (s ∷ l) = counted_is (suc k) l ∙ move k (length l)
 
 more-is : (a : Summary) (k : ℕ) (x : Summary) (t : Bool) (u v : Float) (s : Summary)
     → more_of (after a (suc k) x t u v) s ≡ after a (suc (suc k)) s (t && lt_z x.ended s.ended) (max_of u s.high) (min_of v s.low)
-unfolding more_of in_order_with three_with
-more-is a k x t u v s =
-    ap (λ (o : Bool). record { first = a; last = s; odd = o; three = leb 3 (suc k) || not (eqb (suc k % 2) 1); in_order = t && lt_z x.ended s.ended; gg = max_of u s.high; dd = min_of v s.low }) (odd_step (suc k))
-    ∙ ap (λ (o : Bool). record { first = a; last = s; odd = eqb (suc (suc k) % 2) 1; three = o; in_order = t && lt_z x.ended s.ended; gg = max_of u s.high; dd = min_of v s.low }) (three-step k)
+unfolding more_of in_order_with class
+more-is a k x t u v s = refl
 
 run_fold : (a : Summary) (k : ℕ) (x : Summary) (t : Bool) (u v : Float) (l : List Summary)
     → foldl more_of (after a (suc k) x t u v) l ≡ after a (counted (suc k) l) (last_from x l) (t && chronological (x ∷ l)) (Lists.fold_left max_of u (highs l)) (Lists.fold_left min_of v (lows l))
@@ -74,7 +90,7 @@ run_fold a k x t u v (s ∷ l) =
 
 -- a run of one stroke is the run after one
 run_is : (a : Summary) (l : List Summary) → run_of a l ≡ after a (length (a ∷ l)) (last_from a l) (chronological (a ∷ l)) (gg (a ∷ l)) (dd (a ∷ l))
-unfolding run_of begun gg dd greatest least highs lows Lists.fold_left
+unfolding run_of begun class gg dd greatest least highs lows Lists.fold_left
 run_is a l =
     run_fold a 0 a true (gg (a ∷ [])) (dd (a ∷ [])) l
     ∙ ap (λ (n : ℕ). after a n (last_from a l) (chronological (a ∷ l)) (gg (a ∷ l)) (dd (a ∷ l))) (counted_is 1 l ∙ one (length l))
@@ -84,8 +100,14 @@ run_is a l =
 
 pub up-grown : (a : Summary) (l : List Summary) → up_of (run_of a l) ≡ is_bis_up (a ∷ l)
 unfolding up_of is_run_of is_bis_up is_run up_from
-up-grown a l = ap up_of (run_is a l)
+up-grown a l = ap up_of (run_is a l) ∙ ap (λ (b : Bool). (b && chronological (a ∷ l)) && up_from a (last_from a l) (a ∷ l)) (class_is (length l))
 
 pub down-grown : (a : Summary) (l : List Summary) → down_of (run_of a l) ≡ is_bis_down (a ∷ l)
 unfolding down_of is_run_of is_bis_down is_run down_from
-down-grown a l = ap down_of (run_is a l)
+down-grown a l = ap down_of (run_is a l) ∙ ap (λ (b : Bool). (b && chronological (a ∷ l)) && down_from a (last_from a l) (a ∷ l)) (class_is (length l))
+
+-- either, by the way that is asked
+pub way-grown : (d : Direction) (a : Summary) (l : List Summary) → goes_of d (run_of a l) ≡ goes d (a ∷ l)
+unfolding goes_of goes
+way-grown Up a l = up-grown a l
+way-grown Down a l = down-grown a l

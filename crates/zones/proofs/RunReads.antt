@@ -1,14 +1,12 @@
 -- Runs of strokes that are walked stroke by stroke off the rows.
 -- Assumes nothing.
 use Prim.Native.Nat.{ℕ, ◌+◌, ◌-◌, ◌*◌, ◌/◌, ◌≤◌, ◌<◌}
-use native.Mathlib.Omega.{arith}
-use mathlib.Core.Path.{◌≡◌, ap, sym, ◌∙◌, subst}
-use mathlib.Core.Bool.{Bool, false, ◌&&◌}
+use mathlib.Core.Path.{◌≡◌, ap, sym, ◌∙◌}
+use mathlib.Core.Bool.{Bool, false}
 use native.Mathlib.Numerals.{add-one}
 use mathlib.Core.List.{List, [], ◌∷◌, ◌++◌, foldl}
 use lib.ListN.{length, take, get_or, set}
 use lib.Seq.{take-suc-set}
-use lib.Dec.{leb}
 use Rattle.strokes.specs.declared.Stand.{Stand}
 use Rattle.machine.specs.declared.Mark.{Mark}
 use Rattle.check_bi.specs.declared.check_fx.Candle.{Candle}
@@ -17,14 +15,15 @@ use Rattle.strokes.specs.Lent.{FractalStore}
 use Rattle.strokes.specs.FractalRows.{row_mark}
 use Rattle.zones.specs.declared.Summary.{Summary}
 use Rattle.zones.specs.declared.runs_of_strokes.GrowingRun.{GrowingRun}
-use Rattle.zones.specs.BisUpDown.{is_bis_up, is_bis_down}
-use Rattle.zones.specs.Code.GrowingRun.{begun, more_of, run_of, up_of, down_of}
-use Rattle.zones.specs.Code.StrokesRead.{stroke_place, fractal_number, stroke_end, summary_from, summary_at, items_from, read_run, StrokeStands, RunStands}
+use Rattle.machine.specs.declared.Direction.{Direction}
+use Rattle.machine.specs.declared.Direction.TheVariants.{Up, Down}
+use Rattle.zones.specs.BisUpDown.{is_bis_up, is_bis_down, goes}
+use Rattle.zones.specs.Code.GrowingRun.{begun, more_of, run_of, goes_of}
+use Rattle.zones.specs.Code.StrokesRead.{stroke_place, fractal_number, stroke_end, summary_from, summary_at, items_from, read_run}
 use Rattle.named.specs.Code.NamedRows.{mark_at, middle_at}
 use Rattle.zones.proofs.Items.{items_more}
-use Rattle.zones.proofs.RunFolds.{up-grown, down-grown}
+use Rattle.zones.proofs.RunFolds.{way-grown}
 use Rattle.zones.proofs.StrokesReadLaws.{run-first}
-use borrow.Author.Tests.{lt-leb, le-leb}
 
 -- a stroke that the code has read
 pub summary_done : (s : Stand) (f : FractalStore) (i place e : ℕ) (m : Mark) (a z : Candle) (r : Summary)
@@ -40,9 +39,6 @@ summary_done s f i place e m a z r ep ee em ea ez er =
     er ∙ (λ j. summary_from (em j) (ea j) (ez j)) ∙ (λ j. summary_from (row_mark (get_or f.prices (ep j) [])) (middle_at f (ep j)) (middle_at f (ep j + ee j)))
 
 module _ (s : Stand) (f : FractalStore) (first count : ℕ) where
-  pub first-stands : 1 ≤ count → RunStands s f first count → StrokeStands s f first
-  first-stands h r = let e : first + 0 ≡ first = omega arith in subst (StrokeStands s f) e (r.each 0 (omega arith))
-
   pub run-begins : (w : GrowingRun) (a : Summary) → a ≡ summary_at s f first → w ≡ begun a
       → foldl more_of w (read_run s f (first + 1) (count - 1)) ≡ run_of (summary_at s f first) (read_run s f (first + 1) (count - 1))
   unfolding run_of
@@ -52,19 +48,13 @@ module _ (s : Stand) (f : FractalStore) (first count : ℕ) where
   unfolding read_run items_from
   read_none e = ap (read_run s f first) e
 
-  pub up_none : count ≡ 0 → false ≡ is_bis_up (read_run s f first count)
-  unfolding is_bis_up
-  up_none e = sym (ap is_bis_up (read_none e))
+  pub none_goes : (d : Direction) → count ≡ 0 → false ≡ goes d (read_run s f first count)
+  unfolding goes is_bis_up is_bis_down
+  none_goes Up e = sym (ap is_bis_up (read_none e))
+  none_goes Down e = sym (ap is_bis_down (read_none e))
 
-  pub down-none : count ≡ 0 → false ≡ is_bis_down (read_run s f first count)
-  unfolding is_bis_down
-  down-none e = sym (ap is_bis_down (read_none e))
-
-  pub up_walked : (w : GrowingRun) (r : Bool) → 1 ≤ count → w ≡ run_of (summary_at s f first) (read_run s f (first + 1) (count - 1)) → r ≡ up_of w → r ≡ is_bis_up (read_run s f first count)
-  up_walked w r h e q = q ∙ ap up_of e ∙ up-grown (summary_at s f first) (read_run s f (first + 1) (count - 1)) ∙ sym (ap is_bis_up (run-first s f first count h))
-
-  pub down_walked : (w : GrowingRun) (r : Bool) → 1 ≤ count → w ≡ run_of (summary_at s f first) (read_run s f (first + 1) (count - 1)) → r ≡ down_of w → r ≡ is_bis_down (read_run s f first count)
-  down_walked w r h e q = q ∙ ap down_of e ∙ down-grown (summary_at s f first) (read_run s f (first + 1) (count - 1)) ∙ sym (ap is_bis_down (run-first s f first count h))
+  pub way_walked : (d : Direction) (w : GrowingRun) (r : Bool) → 1 ≤ count → w ≡ run_of (summary_at s f first) (read_run s f (first + 1) (count - 1)) → r ≡ goes_of d w → r ≡ goes d (read_run s f first count)
+  way_walked d w r h e q = q ∙ ap (goes_of d) e ∙ way-grown d (summary_at s f first) (read_run s f (first + 1) (count - 1)) ∙ sym (ap (goes d) (run-first s f first count h))
 
 -- ---- a run that is read into an array, stroke by stroke
 
@@ -77,17 +67,3 @@ module _ (s : Stand) (f : FractalStore) (first : ℕ) where
       ∙ take-suc-set run j x h
       ∙ (λ i. k i ++ e i ∷ [])
       ∙ sym (items_more (summary_at s f) first j)
-
-  pub reads_end : (run : List Summary) (j count : ℕ) → j ≤ count → count ≤ j → take j run ≡ read_run s f first j → take count run ≡ read_run s f first count
-  reads_end run j count h k e = let q : j ≡ count = omega arith in ap (λ (n : ℕ). take n run) (sym q) ∙ e ∙ ap (read_run s f first) q
-
--- ---- whether three columns have n places
-
-pub fit_first : (n a b c : ℕ) → a < n → false ≡ (leb n a && (leb n b && leb n c))
-fit_first n a b c h = sym (ap (λ (x : Bool). x && (leb n b && leb n c)) (lt-leb n a h))
-
-pub fit_second : (n a b c : ℕ) → n ≤ a → b < n → false ≡ (leb n a && (leb n b && leb n c))
-fit_second n a b c k h = sym (λ i. le-leb n a k i && (lt-leb n b h i && leb n c))
-
-pub fit_third : (n a b c : ℕ) → n ≤ a → n ≤ b → leb n c ≡ (leb n a && (leb n b && leb n c))
-fit_third n a b c k h = sym (λ i. le-leb n a k i && (le-leb n b h i && leb n c))

@@ -2,6 +2,7 @@
 -- Assumes nothing.
 use mathlib.Core.Path.{◌≡◌, refl, ap, sym, ◌∙◌}
 use mathlib.Core.Bool.{Bool, true, false, not, ◌&&◌}
+use Rattle.std.specs.Prelude.{Option, Some, None}
 use mathlib.Core.List.{List, [], ◌∷◌, ◌++◌, foldl}
 use lib.Ieee.{Float, lt}
 use Rattle.arith.specs.Order.{max_of, min_of}
@@ -13,12 +14,21 @@ use Rattle.named.specs.Folds.{greatest, least}
 use Rattle.zones.specs.declared.Summary.{Summary}
 use Rattle.zones.specs.declared.zone_building.GrowingZone.{GrowingZone}
 use Rattle.zones.specs.Zones.{Zone, highs, lows, zg, zd, zz, gg, dd, outside, opens, meets_range, is_valid, zone_with, last_from, zone_of}
-use Rattle.zones.specs.Code.GrowingZone.{started, joined_early, joined_later, joined_if, joined_of, grown, outside_of, opens_of, zz_of, first_meet, valid_of, zone_from}
+use Rattle.zones.specs.Code.GrowingZone.{started, joined_early, joined_later, joined_if, joined_of, grown, outside_of, opens_of, zz_of, meets_if, first_meet, valid_of, zone_from}
 use Rattle.arith.proofs.Tests.{and_true, and_assoc}
+
+-- with the third stroke, and with a later one
+pub third_joined : (z : GrowingZone) (s b : Summary) → z.second ≡ Some b → z.third ≡ None → joined_early z z.second (Some s) s ≡ joined_of z s
+unfolding joined_of joined_if
+third_joined z s b p q = ap (λ (o : Option Summary). joined_early z o (Some s) s) p ∙ sym (λ i. joined_if (p i) (q i) z s)
+
+pub later_joined : (z : GrowingZone) (s b c : Summary) → z.second ≡ Some b → z.third ≡ Some c → joined_later z s ≡ joined_of z s
+unfolding joined_of joined_if
+later_joined z s b c p q = sym (λ i. joined_if (p i) (q i) z s)
 
 -- of three strokes a, b, c or more
 abbrev three_on : Summary → Summary → Summary → Float → Float → Summary → Float → Float → Bool → GrowingZone
-three_on a b c g d x u v t = record { few = 3; first = a; second = b; third = c; last = x; zg = g; zd = d; gg = u; dd = v; later = t }
+three_on a b c g d x u v t = record { first = a; second = Some b; third = Some c; last = x; zg = g; zd = d; gg = u; dd = v; later = t }
 
 module _ (a b c : Summary) (g d : Float) where
   later_fold : (x : Summary) (u v : Float) (t : Bool) (l : List Summary)
@@ -29,14 +39,14 @@ module _ (a b c : Summary) (g d : Float) where
       later_fold s (max_of u s.high) (min_of v s.low) (t && meets_range g d s) l
       ∙ ap (three_on a b c g d (last_from s l) (Lists.fold_left max_of (max_of u s.high) (highs l)) (Lists.fold_left min_of (min_of v s.low) (lows l))) (sym (and_assoc t (meets_range g d s) (every (meets_range g d) l)))
 
--- ---- is_valid: a missing stroke stands for the one before it
+-- ---- is_valid
 
-one_meets : (n p : Bool) → n && ((p && (p && p)) && true) ≡ n && (p && true)
+one_meets : (n p : Bool) → n && ((p && true) && true) ≡ n && (p && true)
 one_meets false p = refl
 one_meets true true = refl
 one_meets true false = refl
 
-two-meet : (n p q : Bool) → n && ((p && (q && q)) && true) ≡ n && (p && (q && true))
+two-meet : (n p q : Bool) → n && ((p && (q && true)) && true) ≡ n && (p && (q && true))
 two-meet false p q = refl
 two-meet true false q = refl
 two-meet true true true = refl
@@ -61,7 +71,7 @@ apart z = not (lt (zg z) (zd z))
 
 -- started with a and joined by each stroke of l in turn, it is ZS::new of them all
 pub zone-grown : (a : Summary) (l : List Summary) → zone_from (grown a l) (a ∷ l) ≡ zone_of (a ∷ l)
-unfolding grown started joined_of joined_if joined_early zone_from zz_of valid_of first_meet zone_of zone_with last_from is_valid zg zd zz gg dd least greatest highs lows Lists.fold_left every
+unfolding grown started joined_of joined_if joined_early zone_from zz_of valid_of first_meet meets_if zone_of zone_with last_from is_valid zg zd zz gg dd least greatest highs lows Lists.fold_left every
 zone-grown a [] = ap (answered (a ∷ []) a a) (one_meets (apart (a ∷ [])) (meets (a ∷ []) a))
 zone-grown a (b ∷ []) = ap (answered (a ∷ b ∷ []) a b) (two-meet (apart (a ∷ b ∷ [])) (meets (a ∷ b ∷ []) a) (meets (a ∷ b ∷ []) b))
 zone-grown a (b ∷ c ∷ l) =

@@ -6,7 +6,7 @@ use native.Mathlib.Numerals.{add-one}
 use mathlib.Core.Path.{◌≡◌, refl, ap, sym, ◌∙◌, subst}
 use mathlib.Core.Bool.{Bool, true, false}
 use mathlib.Core.List.{List, [], ◌∷◌, ◌++◌, map, map-append, foldl}
-use lib.ListN.{length, take, drop, get_or, set, length-append, length-map, length-drop, length-set}
+use lib.ListN.{length, take, drop, get_or, set, length-append, length-map, length-drop}
 use lib.Seq.{drop-cons, drop-drop, take-suc, take_all, length-take-le, set-set}
 use borrow.Author.Tests.{ne_eqb}
 use Rattle.strokes.specs.FractalRows.{pasted}
@@ -17,7 +17,9 @@ use Rattle.zones.specs.Zones.{Zone, opens, placed, grow, zones, zone_of, get_zs_
 use Rattle.zones.specs.Code.GrowingZone.{joined_of, grown, opens_of, zz_of, valid_of, zone_from}
 use Rattle.zones.specs.FakeRows.{direction_code}
 use Rattle.zones.specs.ZoneRows.{flag, zone_times, zone_prices, zone_numbers, ZoneColumns, zone_columns, put_zones, stroke_times, stroke_prices, stroke_code, StrokeColumns, stroke_columns, put_strokes}
-use Rattle.zones.specs.Code.ZoneSteps.{RoomZones, RoomStrokes, no_zone, next_if, next_of, states_of, set_zone}
+use Rattle.zones.specs.declared.lent_rows.RowsMut.{RowsMut}
+use Rattle.zones.specs.Columns.{strokes_of, RoomRows}
+use Rattle.zones.specs.Code.ZoneSteps.{RoomZones, no_zone, next_if, next_of, states_of, set_zone}
 use Rattle.zones.proofs.ZoneFolds.{zone-grown, opens-grown, joined-grown}
 use Rattle.zones.proofs.Items.{put_none, put_more}
 
@@ -212,37 +214,12 @@ zones-written (a ∷ bs) d room = written (zones (a ∷ bs)) d room bs (next_of 
 pub room-inside : (d : ZoneColumns) (n k : ℕ) → RoomZones d n → k < n → RoomZones d (k + 1)
 room-inside d n k r h = let a = r.times in let b = r.prices in let c = r.numbers in record { times = omega arith; prices = omega arith; numbers = omega arith }
 
--- each row that is written leaves the columns as long as they were
-pub record SameRoom (w d : ZoneColumns) : Type 0 where
-  pub times : length w.times ≡ length d.times
-  pub prices : length w.prices ≡ length d.prices
-  pub numbers : length w.numbers ≡ length d.numbers
-
-pub set_room : (w' w d : ZoneColumns) (b : Building) → w' ≡ set_zone w b → SameRoom w d → SameRoom w' d
-unfolding set_zone
-set_room w' w d b e g =
-    let z = b.zone in
-    record {
-      times = ap (λ (x : ZoneColumns). length x.times) e ∙ length-set w.times b.done (z.first.began ∷ z.last.ended ∷ []) ∙ g.times;
-      prices = ap (λ (x : ZoneColumns). length x.prices) e ∙ length-set w.prices b.done (z.zg ∷ z.zd ∷ zz_of z ∷ z.gg ∷ z.dd ∷ []) ∙ g.prices;
-      numbers = ap (λ (x : ZoneColumns). length x.numbers) e ∙ length-set w.numbers b.done (direction_code z.first.direction ∷ direction_code z.last.direction ∷ flag (valid_of z) ∷ b.size ∷ []) ∙ g.numbers;
-    }
-
-pub same-room : (w d : ZoneColumns) (n : ℕ) → SameRoom w d → RoomZones d n → RoomZones w n
-same-room w d n g r = let a = r.times in let b = r.prices in let c = r.numbers in let x = g.times in let y = g.prices in let z = g.numbers in record { times = omega arith; prices = omega arith; numbers = omega arith }
-
 -- ---- the strokes of the run
 
 -- the columns d after the first j strokes of the list l
-pub record Listed (l : List Summary) (d w : StrokeColumns) (j : ℕ) : Type 0 where
-  pub columns : w ≡ put_strokes d (take j l)
-  pub times : length w.times ≡ length d.times
-  pub prices : length w.prices ≡ length d.prices
-  pub codes : length w.codes ≡ length d.codes
-
-pub listed-none : (l : List Summary) (d : StrokeColumns) → Listed l d d 0
+pub listed-none : (d : StrokeColumns) → d ≡ put_strokes d []
 unfolding put_strokes
-listed-none l d = record { columns = λ i. stroke_columns (put_none d.times i) (put_none d.prices i) (put_none d.codes i); times = refl; prices = refl; codes = refl }
+listed-none d = λ i. stroke_columns (put_none d.times i) (put_none d.prices i) (put_none d.codes i)
 
 stroke-row : {B : Type 0} (row : Summary → B) (l : List Summary) (d c : List B) (j : ℕ) (x : Summary) → c ≡ pasted d 0 (map row (take j l)) → j < length d → j < length l
     → set c j (row (get_or l j x)) ≡ pasted d 0 (map row (take (j + 1) l))
@@ -254,30 +231,17 @@ stroke-row row l d c j x e h k =
     ∙ put_more d r (row (get_or l j x)) (omega arith)
     ∙ ap (pasted d 0) (sym (ap (λ (y : ℕ). map row (take y l)) (add-one j) ∙ ap (map row) (take-suc l j x k) ∙ map-append row (take j l) (get_or l j x ∷ [])))
 
-pub listed-turn : (l : List Summary) (j n : ℕ) (d w w' : StrokeColumns) (x : Summary) → RoomStrokes d n → j < n → j < length l → Listed l d w j
-    → w' ≡ stroke_columns (set w.times j (stroke_times (get_or l j x))) (set w.prices j (stroke_prices (get_or l j x))) (set w.codes j (stroke_code (get_or l j x)))
-    → Listed l d w' (j + 1)
+pub listed-turn : (l : List Summary) (j : ℕ) (d w w' : RowsMut 2 ℕ) (x : Summary) → RoomRows d (length l) → j < length l → strokes_of w ≡ put_strokes (strokes_of d) (take j l)
+    → w'.times.now ≡ set w.times.now j (stroke_times (get_or l j x))
+    → w'.prices.now ≡ set w.prices.now j (stroke_prices (get_or l j x))
+    → w'.kinds.now ≡ set w.kinds.now j (stroke_code (get_or l j x))
+    → strokes_of w' ≡ put_strokes (strokes_of d) (take (j + 1) l)
 unfolding put_strokes
-listed-turn l j n d w w' x room h k g q =
+listed-turn l j d w w' x room h c t q u =
     let g1 = room.times in
     let g2 = room.prices in
-    let g3 = room.codes in
-    let c = g.columns in
-    let s = get_or l j x in
-    record {
-      columns =
-          q
-          ∙ (λ i.
-          stroke_columns (stroke-row stroke_times l d.times w.times j x (ap (λ (y : StrokeColumns). y.times) c) (omega arith) k i)
-          (stroke-row stroke_prices l d.prices w.prices j x (ap (λ (y : StrokeColumns). y.prices) c) (omega arith) k i)
-          (stroke-row stroke_code l d.codes w.codes j x (ap (λ (y : StrokeColumns). y.codes) c) (omega arith) k i));
-      times = ap (λ (y : StrokeColumns). length y.times) q ∙ length-set w.times j (stroke_times s) ∙ g.times;
-      prices = ap (λ (y : StrokeColumns). length y.prices) q ∙ length-set w.prices j (stroke_prices s) ∙ g.prices;
-      codes = ap (λ (y : StrokeColumns). length y.codes) q ∙ length-set w.codes j (stroke_code s) ∙ g.codes;
-    }
-
-pub listed-end : (l : List Summary) (j n : ℕ) (d w : StrokeColumns) → j ≤ n → n ≤ j → Listed l d w j → w ≡ put_strokes d (take n l)
-listed-end l j n d w h k g = let q : j ≡ n = omega arith in g.columns ∙ ap (λ (x : ℕ). put_strokes d (take x l)) q
-
-pub room-strokes : (d w : StrokeColumns) (n j : ℕ) → RoomStrokes d n → length w.times ≡ length d.times → length w.prices ≡ length d.prices → length w.codes ≡ length d.codes → j < n → RoomStrokes w (j + 1)
-room-strokes d w n j r a b e h = let x = r.times in let y = r.prices in let z = r.codes in record { times = omega arith; prices = omega arith; codes = omega arith }
+    let g3 = room.kinds in
+    λ i.
+    stroke_columns ((t ∙ stroke-row stroke_times l d.times.now w.times.now j x (ap (λ (y : StrokeColumns). y.times) c) (omega arith) h) i)
+    ((q ∙ stroke-row stroke_prices l d.prices.now w.prices.now j x (ap (λ (y : StrokeColumns). y.prices) c) (omega arith) h) i)
+    ((u ∙ stroke-row stroke_code l d.kinds.now w.kinds.now j x (ap (λ (y : StrokeColumns). y.codes) c) (omega arith) h) i)

@@ -47,3 +47,9 @@ unfoldable pub is_bis_down : List Summary → Bool
 unfolding is_run down_from last_from
 is_bis_down [] = false
 is_bis_down (a ∷ l) = is_run (a ∷ l) && down_from a (last_from a l) (a ∷ l)
+
+-- either, by the way that is asked
+unfoldable pub goes : Direction → List Summary → Bool
+unfolding is_bis_up is_bis_down
+goes Up l = is_bis_up l
+goes Down l = is_bis_down l

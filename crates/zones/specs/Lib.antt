@@ -4,7 +4,7 @@ pub mod BisUpDown
 pub mod NamedRuns
 pub mod FakeRows
 pub mod ZoneRows
-pub mod Lent
+pub mod Columns
 pub mod ListedFakes
 pub mod ListedZones
 pub mod ZonesRead

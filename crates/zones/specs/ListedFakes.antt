@@ -1,13 +1,13 @@
 -- What a call answers that lists the fake strokes of a kept stroke: questions 4, 13 and 14, how many there are, and what the output columns hold afterwards.
 -- Definitions only.
-use Rattle.std.specs.Prelude.{ℕ, zero, suc, Bool, true, false, ◌&&◌, List, length}
+use Rattle.std.specs.Prelude.{ℕ, zero, suc, Bool, true, false, ◌&&◌, List, length, Result, Ok, Err}
+use Rattle.bars.specs.declared.refusals.Question.{Question}
 use Rattle.strokes.specs.declared.Stand.{Stand}
 use Rattle.strokes.specs.StateRead.{state_of}
 use Rattle.strokes.specs.Lent.{Stores}
 use Rattle.question4.specs.Question4.{question4}
 use Rattle.named.specs.ReportQuestions.{nth, stroke_exists, fractals_of, question14}
 use Rattle.zones.specs.declared.FakeStroke.{FakeStroke}
-use Rattle.zones.specs.declared.fake_writing.FakesAnswer.{FakesAnswer}
 use Rattle.zones.specs.FakeStrokes.{create_fake_bis}
 use Rattle.zones.specs.NamedRuns.{failed_if}
 use Rattle.zones.specs.FakeRows.{FakeColumns, put_fakes}
@@ -26,6 +26,16 @@ stroke_failed s m place = failed_if (question4 s m) (stroke_exists (state_of s m
 unfoldable pub fakes_fit : FakeColumns → List FakeStroke → Bool
 unfolding question14
 fakes_fit d l = question14 l (length d.times) && (question14 l (length d.prices) && question14 l (length d.codes))
+
+-- the number of the question that was answered no, or 0, and how many fake strokes are listed
+pub record FakesAnswer : Type 0 where
+  pub failed : ℕ
+  pub count : ℕ
+
+-- how many fake strokes a call has listed: none where it was refused
+abbrev pub counted : Result ℕ Question → ℕ
+counted (Ok n) = n
+counted (Err q) = 0
 
 -- the answer of a call, and the output columns after it
 pub record FakesCall : Type 0 where

@@ -1,11 +1,12 @@
 -- What a call answers that lists the zones of a run of kept strokes: questions 4, 13 and 14, how many zones and strokes there are, and what the output columns
 -- hold afterwards. Definitions only.
-use Rattle.std.specs.Prelude.{ℕ, zero, suc, Bool, true, false, ◌&&◌, List, length}
+use Rattle.std.specs.Prelude.{ℕ, zero, suc, Bool, true, false, ◌&&◌, List, length, Result, Ok, Err}
+use Rattle.bars.specs.declared.refusals.Question.{Question}
 use Rattle.strokes.specs.declared.Stand.{Stand}
 use Rattle.strokes.specs.Lent.{Stores}
 use Rattle.named.specs.ReportQuestions.{question14}
 use Rattle.zones.specs.declared.Summary.{Summary}
-use Rattle.zones.specs.declared.zone_writing.ZonesAnswer.{ZonesAnswer}
+use Rattle.zones.specs.declared.zone_writing.ZoneCounts.{ZoneCounts}
 use Rattle.zones.specs.Zones.{Zone, get_zs_seq}
 use Rattle.zones.specs.NamedRuns.{run_failed, named_run}
 use Rattle.zones.specs.ZoneRows.{ZoneColumns, put_zones, StrokeColumns, put_strokes}
@@ -18,6 +19,21 @@ zones_fit d l = question14 l (length d.times) && (question14 l (length d.prices)
 unfoldable pub strokes_fit : StrokeColumns → List Summary → Bool
 unfolding question14
 strokes_fit d l = question14 l (length d.times) && (question14 l (length d.prices) && question14 l (length d.codes))
+
+-- the number of the question that was answered no, or 0, and how many zones and strokes are listed
+pub record ZonesAnswer : Type 0 where
+  pub failed : ℕ
+  pub zones : ℕ
+  pub strokes : ℕ
+
+-- how many zones and strokes a call has listed: none where it was refused
+abbrev pub zones_told : Result ZoneCounts Question → ℕ
+zones_told (Ok n) = n.zones
+zones_told (Err q) = 0
+
+abbrev pub strokes_told : Result ZoneCounts Question → ℕ
+strokes_told (Ok n) = n.strokes
+strokes_told (Err q) = 0
 
 -- the answer of a call, and the output columns after it
 pub record ZonesCall : Type 0 where

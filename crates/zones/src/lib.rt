@@ -3,6 +3,7 @@
 
 mod fake_strokes;
 mod fake_writing;
+mod lent_rows;
 mod lent_zone;
 mod named_runs;
 mod reading;
@@ -11,13 +12,14 @@ mod zone_building;
 mod zone_writing;
 
 pub use fake_strokes::{fake_count, fake_stroke};
-pub use fake_writing::{FakesAnswer, create_fake_bis};
+pub use fake_writing::create_fake_bis;
+pub use lent_rows::{FakeColumnsMut, RowsMut, StrokeColumnsMut, ZoneColumnsMut};
 pub use lent_zone::{Building, no_stroke, zones_of_run};
 use machine::Direction;
-pub use named_runs::{RunAnswer, is_bis_down, is_bis_up};
-pub use runs_of_strokes::GrowingRun;
+pub use named_runs::{is_bis_down, is_bis_up};
+pub use runs_of_strokes::{GrowingRun, StrokeCount};
 pub use zone_building::GrowingZone;
-pub use zone_writing::{ZonesAnswer, get_zs_seq};
+pub use zone_writing::{ZoneCounts, get_zs_seq};
 
 // What a zone reads of a stroke, a BI of the source: its direction, get_high, get_low, and the times
 // of its start and its end fractal.

@@ -1,6 +1,6 @@
 // Kept strokes, read by place off the rows of the fractal store.
 ghost use Rattle.std.specs.Prelude.{◌≡◌, [], ◌+◌, ◌-◌, ◌*◌, ◌/◌, ◌<◌, length, take, get_or};
-ghost use Rattle.strokes.specs.Lent.{fractals_lent, fractals_seen};
+ghost use Rattle.strokes.specs.Columns.{fractals_in};
 ghost use Rattle.zones.specs.Code.StrokesRead.{summary_from, summary_at, read_run, StrokeStands, RunStands};
 
 use super::lent_zone::no_stroke;
@@ -8,60 +8,48 @@ use crate::Summary;
 use check_bi::Candle;
 use machine::Mark;
 use named::{mark_at, middle_at};
-use strokes::{Stand, direction_of, end_index};
+use strokes::{FractalColumns, Stand, direction_of, end_index, total_bars};
 
 // The stroke from a fractal of this mark; of its start and of its end, the middle bar.
 fn summary_from(mark: Mark, a: Candle, z: Candle) -> Summary
     ensures { result ≡ summary_from mark a z }
 {
-    let direction = direction_of(mark);
-    let high = arith::max(a.high, z.high);
-    let low = arith::min(a.low, z.low);
     Summary {
-        direction: direction,
-        high: high,
-        low: low,
+        direction: direction_of(mark),
+        high: arith::max(a.high, z.high),
+        low: arith::min(a.low, z.low),
         began: a.time,
         ended: z.time,
     }
 }
 
 // The kept stroke at place i.
-pub fn summary_at(stand: Stand, fs: &[[i64; 6]], fp: &[[f64; 18]], i: usize) -> Summary
-    requires { StrokeStands stand (fractals_lent fs fp) i }
-    ensures { result ≡ summary_at stand (fractals_seen fs fp) i }
+pub fn summary_at(stand: Stand, fractals: FractalColumns<'_>, i: usize) -> Summary
+    requires { StrokeStands stand (fractals_in fractals) i }
+    ensures { result ≡ summary_at stand (fractals_in fractals.entry) i }
 {
-    let counts = stand.bars;
-    let fractals = stand.fractals;
-    let place = strokes::total_bars(counts, i);
-    let m = fractals[i] as usize;
-    let e = end_index(m);
-    let end = place + e;
-    let mark = mark_at(fp, place);
-    let a = middle_at(fs, fp, place);
-    let z = middle_at(fs, fp, end);
-    summary_from(mark, a, z)
+    let place = total_bars(stand.bars, i);
+    let end = place + end_index(stand.fractals[i] as usize);
+    summary_from(
+        mark_at(fractals.prices, place),
+        middle_at(fractals.stamps, fractals.prices, place),
+        middle_at(fractals.stamps, fractals.prices, end),
+    )
 }
 
 // The kept strokes of a run, in order from place 0 on.
 pub fn read_run(
     stand: Stand,
-    fs: &[[i64; 6]],
-    fp: &[[f64; 18]],
+    fractals: FractalColumns<'_>,
     first: usize,
     count: usize,
 ) -> [Summary; 64]
-    requires { RunStands stand (fractals_lent fs fp) first count }
-    ensures { take count result ≡ read_run stand (fractals_seen fs fp) first count }
+    requires { RunStands stand (fractals_in fractals) first count }
+    ensures { take count result ≡ read_run stand (fractals_in fractals.entry) first count }
 {
-    let none = no_stroke();
-    let mut run = [none; 64];
-    let mut j: usize = 0;
-    while j < count {
-        let i = first + j;
-        let s = summary_at(stand, fs, fp, i);
-        run[j] = s;
-        j += 1;
+    let mut run = [no_stroke(); 64];
+    for j in 0..count {
+        run[j] = summary_at(stand, fractals, first + j);
     }
     run
 }

@@ -1,219 +1,136 @@
 // A line's question and its answer.
-ghost use Rattle.std.specs.Prelude.{◌≤◌};
+ghost use Rattle.std.specs.Prelude.{◌≤◌, length, IfOk, vec_len};
 
-use crate::items::{FractalAt, ReadFractal, fractal_at, strokes_of};
-use lines::{is_word, show, word_end, write_whole};
+use crate::items::{read_fractal, read_stroke};
+use lines::{Output, Spaced, Unanswered, Words, words_behind};
 use machine::Direction;
-use std::io::Stdout;
-use zones::{
-    Building, FakeStroke, GrowingRun, GrowingZone, Summary, fake_count, fake_stroke, zones_of_run,
-};
+use std::alloc::Global;
+use std::fmt;
+use std::io::{self, Write};
+use zones::{Building, FakeStroke, GrowingRun, Summary, fake_count, fake_stroke, zones_of_run};
 
-fn say(to: Stdout, text: &[u8]) {
-    let _ = to.write_all(text);
-}
-
-fn say_direction(to: Stdout, d: Direction) {
+fn direction_word(d: Direction) -> &'static str {
     match d {
-        Direction::Up => say(to, b"up "),
-        Direction::Down => say(to, b"down "),
+        Direction::Up => "up",
+        Direction::Down => "down",
     }
 }
 
-fn say_float(to: Stdout, x: f64) {
-    show(to, x);
-    say(to, b" ");
-}
+// A zone as it is written: `SDT EDT SDIR EDIR ZG ZD ZZ GG DD VALID N`.
+#[derive(Clone, Copy)]
+struct ZoneText(Building);
 
-fn say_time(to: Stdout, t: i64) {
-    write_whole(to, t);
-    say(to, b" ");
-}
-
-fn say_bool(to: Stdout, b: bool) {
-    if b {
-        say(to, b"1");
-        return;
+impl fmt::Display for ZoneText {
+    fn fmt<W: fmt::Write>(&self, f: &mut fmt::Formatter<W>) -> fmt::Result {
+        let zone = self.0.zone;
+        let (first, last) = (zone.first, zone.last);
+        write!(f, "{} {} ", first.began, last.ended)?;
+        f.write_str(direction_word(first.direction))?;
+        f.write_str(" ")?;
+        f.write_str(direction_word(last.direction))?;
+        let edges = [zone.zg, zone.zd, zone.zz(), zone.gg, zone.dd];
+        write!(
+            f,
+            "{} {} {}",
+            Spaced(&edges),
+            u8::from(zone.is_valid()),
+            self.0.size
+        )
     }
-    say(to, b"0");
 }
 
-fn say_ends(to: Stdout, z: GrowingZone) {
-    let first = z.first;
-    let last = z.last;
-    let sdir = first.direction;
-    let edir = last.direction;
-    say_time(to, first.began);
-    say_time(to, last.ended);
-    say_direction(to, sdir);
-    say_direction(to, edir);
-}
+// A fake stroke as it is written: `up|down SDT EDT HIGH LOW POWER`.
+#[derive(Clone, Copy)]
+struct FakeText(FakeStroke);
 
-fn say_edges(to: Stdout, z: GrowingZone) {
-    say_float(to, z.zg);
-    say_float(to, z.zd);
-    say_float(to, z.zz());
-    say_float(to, z.gg);
-    say_float(to, z.dd);
-}
-
-fn say_zone(to: Stdout, b: Building) {
-    let z = b.zone;
-    say_ends(to, z);
-    say_edges(to, z);
-    say_bool(to, z.is_valid());
-    say(to, b" ");
-    let _ = to.print(b.size as u64);
-}
-
-// The zone so far, where the next stroke has opened another.
-fn say_done(to: Stdout, b: Building, next: Building) {
-    if b.done < next.done {
-        say_zone(to, b);
-        say(to, b" | ");
+impl fmt::Display for FakeText {
+    fn fmt<W: fmt::Write>(&self, f: &mut fmt::Formatter<W>) -> fmt::Result {
+        let fake = self.0;
+        f.write_str(direction_word(fake.direction))?;
+        let floats = [fake.high, fake.low, fake.power];
+        write!(f, " {} {}{}", fake.sdt, fake.edt, Spaced(&floats))
     }
+}
+
+// The strokes behind a line's name, at most 64.
+fn strokes_of(alloc: Global, line: &str, words: &mut Words<'_>) -> Result<Vec<Summary>, Unanswered>
+    ensures { IfOk result (λ strokes. vec_len strokes ≤ 64) }
+{
+    let behind = words_behind(line);
+    if behind % 5 != 0 || 64 < behind / 5 {
+        return Err(Unanswered::BadLine);
+    }
+    let mut strokes = Vec::new(alloc);
+    for _ in 0..behind / 5 {
+        strokes.push(read_stroke(words).ok_or(Unanswered::BadLine)?)?;
+    }
+    Ok(strokes)
 }
 
 // The zones of a run, of the zone that each of its strokes is in.
-fn say_zones(to: Stdout, built: [Building; 64], count: usize)
-    requires { count ≤ 64 }
+fn zones_of(out: &mut Output, strokes: &[Summary]) -> io::Result<()>
+    requires { length strokes.now ≤ 64 }
 {
-    let mut b = built[0];
-    let mut i: usize = 1;
-    while i < count {
-        let next = built[i];
-        say_done(to, b, next);
-        b = next;
-        i += 1;
-    }
-    say_zone(to, b);
-}
-
-// Whether the line could be read to its end; so for each question.
-fn zones_of(to: Stdout, line: &[u8], from: usize) -> bool {
-    let strokes = strokes_of(line, from);
-    let run = strokes.run;
-    let count = strokes.count;
-    if !strokes.read {
-        return false;
-    }
-    if count == 0 {
-        say(to, b"empty");
-        return true;
-    }
-    say_zones(to, zones_of_run(run, count), count);
-    true
-}
-
-fn say_run(to: Stdout, strokes: [Summary; 64], count: usize)
-    requires { count ≤ 64 }
-{
-    let first = strokes[0];
-    let mut run = GrowingRun::start(first);
-    let mut i: usize = 1;
-    while i < count {
-        let s = strokes[i];
-        run = run.more(s);
-        i += 1;
-    }
-    say_bool(to, run.is_bis_up());
-    say(to, b" ");
-    say_bool(to, run.is_bis_down());
-}
-
-fn bis_of(to: Stdout, line: &[u8], from: usize) -> bool {
-    let strokes = strokes_of(line, from);
-    let run = strokes.run;
-    let count = strokes.count;
-    if !strokes.read {
-        return false;
-    }
-    if count == 0 {
-        say(to, b"0 0");
-        return true;
-    }
-    say_run(to, run, count);
-    true
-}
-
-fn say_fake(to: Stdout, f: FakeStroke) {
-    let d = f.direction;
-    say_direction(to, d);
-    say_time(to, f.sdt);
-    say_time(to, f.edt);
-    say_float(to, f.high);
-    say_float(to, f.low);
-    show(to, f.power);
-}
-
-fn spaces(line: &[u8]) -> usize {
-    let mut n: usize = 0;
-    let mut i: usize = 0;
-    while i < line.len() {
-        if line[i] == b' ' {
-            n += 1;
+    let count = strokes.len();
+    let built = zones_of_run(strokes);
+    for pair in built[..count].windows(2) {
+        // The next stroke has opened another.
+        if pair[0].done < pair[1].done {
+            write!(out, "{} | ", ZoneText(pair[0]))?;
         }
-        i += 1;
     }
-    n
+    match built[..count].last() {
+        None => writeln!(out, "empty"),
+        Some(zone) => writeln!(out, "{}", ZoneText(*zone)),
+    }
 }
 
-// The k fake strokes from the fractal `first` on.
-fn say_fakes(to: Stdout, line: &[u8], first: FractalAt, k: usize) -> bool {
-    let mut last = first;
-    let mut i: usize = 0;
-    while i < k {
-        let at = last.end;
-        let ReadFractal::Is(next) = fractal_at(line, at) else {
-            return false;
-        };
-        let mark = last.mark;
-        let a = last.candle;
-        let b = next.candle;
-        if 0 < i {
-            say(to, b" | ");
-        }
-        say_fake(to, fake_stroke(2, mark, a, b));
-        last = next;
-        i += 1;
-    }
-    true
-}
-
-// A fractal has four words.
-fn fake_of(to: Stdout, line: &[u8], from: usize) -> bool {
-    let k = fake_count(spaces(line) / 4);
-    if k == 0 {
-        say(to, b"empty");
-        return true;
-    }
-    let ReadFractal::Is(first) = fractal_at(line, from) else {
-        return false;
+// is_bis_up and is_bis_down of a run.
+fn bis_of(out: &mut Output, strokes: &[Summary]) -> io::Result<()> {
+    let Some((first, rest)) = strokes.split_first() else {
+        return writeln!(out, "0 0");
     };
-    say_fakes(to, line, first, k)
+    let mut run = GrowingRun::start(*first);
+    for stroke in rest {
+        run = run.more(*stroke);
+    }
+    writeln!(
+        out,
+        "{} {}",
+        u8::from(run.is_bis_up()),
+        u8::from(run.is_bis_down())
+    )
 }
 
-fn answer(to: Stdout, line: &[u8], n: usize, name: &[u8]) -> bool {
-    if is_word(name, b"zones") {
-        return zones_of(to, line, n);
+// The fake strokes of the fractals behind a line's name, each of four words.
+fn fakes_of(out: &mut Output, line: &str, words: &mut Words<'_>) -> Result<(), Unanswered> {
+    let count = fake_count(words_behind(line) / 4);
+    if count == 0 {
+        writeln!(out, "empty")?;
+        return Ok(());
     }
-    if is_word(name, b"bis") {
-        return bis_of(to, line, n);
+    let mut last = read_fractal(words).ok_or(Unanswered::BadLine)?;
+    for i in 0..count {
+        let next = read_fractal(words).ok_or(Unanswered::BadLine)?;
+        if 0 < i {
+            write!(out, " | ")?;
+        }
+        let fake = fake_stroke(2, last.mark, last.candle, next.candle);
+        write!(out, "{}", FakeText(fake))?;
+        last = next;
     }
-    if is_word(name, b"fake") {
-        return fake_of(to, line, n);
-    }
-    false
+    writeln!(out)?;
+    Ok(())
 }
 
-// Writes the answer to the line with this number.
-pub fn reply(to: Stdout, line: &[u8], number: u64) {
-    let n = word_end(line, 0);
-    if answer(to, line, n, &line[..n]) {
-        say(to, b"\n");
-        return;
+// Writes the answer to a line.
+pub fn answer(out: &mut Output, alloc: Global, line: &str) -> Result<(), Unanswered> {
+    let mut words = line.split(' ');
+    match words.next() {
+        Some("zones") => zones_of(out, &strokes_of(alloc, line, &mut words)?)?,
+        Some("bis") => bis_of(out, &strokes_of(alloc, line, &mut words)?)?,
+        Some("fake") => fakes_of(out, line, &mut words)?,
+        _ => return Err(Unanswered::BadLine),
     }
-    say(to, b"bad line ");
-    let _ = to.print(number);
-    say(to, b"\n");
+    Ok(())
 }

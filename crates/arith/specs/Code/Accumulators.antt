@@ -1,10 +1,11 @@
 -- The accumulators of src/sums.rt: where each starts, what one value more makes of it, and what it gives at the end. Definitions only.
-use Rattle.std.specs.Prelude.{Bool, true, false, ◌==◌, Float}
+use Rattle.std.specs.Prelude.{Bool, true, false, Float}
 use Rattle.std.specs.Float.Ieee.{add, div, lt, eq}
 use Rattle.arith.specs.declared.sums.MeanSums.{MeanSums}
 use Rattle.arith.specs.declared.sums.SlopeSums.{SlopeSums}
 use Rattle.arith.specs.declared.sums.FitSums.{FitSums}
 use Rattle.arith.specs.declared.sums.SnrSums.{SnrSums}
+use Rattle.arith.specs.declared.sums.SnrSums.TheVariants.{NoBar, OneBar, Bars}
 use Rattle.arith.specs.Sums.{zero_f, minus_zero, one_f, two_f, three_f, plus, over, quotient_if, quotient, middle, cross, square, x4_of, x3_of, x2_of, x1_of, x2y_of, xy_of, y_of, fit_of, change_of}
 
 -- a sum from its first term starts at -0.0, since -0.0 + x is x (SumLaws, `plus-minus-zero`)
@@ -72,26 +73,19 @@ unfoldable pub fit_end : FitSums → Float
 unfolding fit_end_if lt
 fit_end s = fit_end_if (lt s.n three_f) s
 
--- bars counts 0, 1, and 2 for two or more
+-- of one bar its open and close are kept, of more the first open, the last close and the sum of the changes
 abbrev pub snr_start : SnrSums
-snr_start = record { bars = 0; first = zero_f; last = zero_f; sum = zero_f }
-
-unfoldable pub snr_more_if : Bool → SnrSums → Float → Float → SnrSums
-unfolding add change_of
-snr_more_if true s o c = record { bars = 1; first = o; last = c; sum = plus s.sum (change_of (o, c)) }
-snr_more_if false s o c = record { bars = 2; first = s.first; last = c; sum = plus s.sum (change_of (o, c)) }
+snr_start = NoBar
 
 unfoldable pub snr_more : SnrSums → Float × Float → SnrSums
-unfolding snr_more_if
-snr_more s p = snr_more_if (s.bars == 0) s p.0 p.1
+unfolding add change_of
+snr_more NoBar p = OneBar p.0 p.1
+snr_more (OneBar o c) p = Bars o p.1 (plus (change_of (o, c)) (change_of p))
+snr_more (Bars o c t) p = Bars o p.1 (plus t (change_of p))
 
 -- none: 0.0; one: |close - open|; else the ratio
-unfoldable pub snr_end_if : Bool → Bool → SnrSums → Float
-unfolding change_of quotient_if eq
-snr_end_if true b s = zero_f
-snr_end_if false true s = change_of (s.first, s.last)
-snr_end_if false false s = quotient (change_of (s.first, s.last)) s.sum
-
 unfoldable pub snr_end : SnrSums → Float
-unfolding snr_end_if
-snr_end s = snr_end_if (s.bars == 0) (s.bars == 1) s
+unfolding change_of quotient_if eq
+snr_end NoBar = zero_f
+snr_end (OneBar o c) = change_of (o, c)
+snr_end (Bars o c t) = quotient (change_of (o, c)) t

@@ -1,6 +1,8 @@
 -- The steps of the asking, of the columns that each of them reads: questions 5 to 10, the last stroke, and the plan behind the tail. Definitions only.
 use Rattle.std.specs.Prelude.{ℕ, zero, suc, ◌+◌, ◌<◌, ◌≤◌, Bool, false, List, map, ◌≡◌, length, take, ℤ, Float}
-use Rattle.std.proofs.Math.Option.{Option, none}
+use Rattle.std.specs.Prelude.{Some, None}
+use Rattle.std.specs.declared.option.Option as Std
+use Rattle.std.proofs.Math.Option.{Option}
 use Rattle.bars.specs.declared.Bar.{Bar}
 use Rattle.bars.specs.Bars.{Merged}
 use Rattle.bars.specs.Questions.{first_failed}
@@ -22,8 +24,7 @@ use Rattle.asking.specs.declared.questions.Early.{Early}
 use Rattle.asking.specs.declared.questions.Tried.{Tried}
 use Rattle.asking.specs.declared.plan.Last.{Last}
 use Rattle.asking.specs.Code.MergedTail.{NamedRaw, LastOf, merged_by}
-use Rattle.asking.specs.Code.FeedPlan.{plan_of}
-use Rattle.asking.specs.Code.Asked.{last_of}
+use Rattle.asking.specs.Code.FeedPlan.{plan_of, bars_made}
 
 -- ---- questions 5 to 10
 
@@ -50,10 +51,10 @@ unfolding mark_for
 last_from r = record { mark = mark_for r.direction; high = r.high; low = r.low; bars = r.bars; time = r.time }
 
 -- by the number of strokes that are kept
-unfoldable pub last_in : ℕ → Stand → List ℤ → List (List Float) → Last
-unfolding last_of last_from last_read
-last_in zero s ts ps = last_of none
-last_in (suc n) s ts ps = last_from (last_read s ts ps)
+unfoldable pub last_in : ℕ → Stand → List ℤ → List (List Float) → Std.Option Last
+unfolding last_from last_read
+last_in zero s ts ps = None
+last_in (suc n) s ts ps = Some (last_from (last_read s ts ps))
 
 -- where a stroke is kept, its rows stand in these columns, and the strokes' bars take up so many places
 pub record HasLast (s : Stand) (ts : List ℤ) (ps : List (List Float)) (used : ℕ) : Type 0 where
@@ -85,9 +86,9 @@ bar_candle b = record { time = b.time; high = b.high; low = b.low }
 
 -- how many unfinished bars there would be, and the plan, where they are the bars l
 pub record TriedWith (s : Stand) (l : List Bar) (ts : List ℤ) (ps : List (List Float)) (t : Tried) : Type 0 where
-  pub plan : t.plan ≡ plan_of s.strokes s.minimum (last_in s.strokes s ts ps) (map bar_candle l)
+  pub plan : t.plan ≡ plan_of s.minimum (last_in s.strokes s ts ps) (map bar_candle l)
   pub total : t.total ≡ length l
-  pub found : t.plan.found.bars < 4294967296
+  pub found : bars_made t.plan.found < 4294967296
 
 -- what trying a bar asks of the stand and of the columns that are read
 pub record CanTry (later : Bool) (s : Stand) (r : RawStore) (u : MergedStore) (ts : List ℤ) (ps : List (List Float)) (used : ℕ) : Type 0 where
@@ -105,6 +106,6 @@ tried_bars later s r u b = merged_by later (take s.raw (raw_bars r)) (take s.unf
 
 -- how many unfinished bars there would be, and the plan
 pub record TriedOf (later : Bool) (s : Stand) (r : RawStore) (u : MergedStore) (ts : List ℤ) (ps : List (List Float)) (b : Bar) (t : Tried) : Type 0 where
-  pub plan : t.plan ≡ plan_of s.strokes s.minimum (last_in s.strokes s ts ps) (map candle_of (tried_bars later s r u b))
+  pub plan : t.plan ≡ plan_of s.minimum (last_in s.strokes s ts ps) (map candle_of (tried_bars later s r u b))
   pub total : t.total ≡ length (tried_bars later s r u b)
-  pub found : t.plan.found.bars < 4294967296
+  pub found : bars_made t.plan.found < 4294967296

@@ -1,13 +1,12 @@
 -- What the asking of a feed gives, of the settings, the state and the bar alone: the first of questions 5 to 12 that fails, and what the feed would do.
 -- Definitions only.
 use Rattle.std.specs.Prelude.{map, ◌≡◌, length, ℤ, pos}
+use Rattle.std.specs.Prelude.{Some, None}
+use Rattle.std.specs.declared.option.Option as Std
 use Rattle.std.proofs.Math.Option.{Option, none, some}
-use Rattle.std.specs.Float.{binary64}
-use Rattle.std.specs.Float.Ieee.{of_bits}
 use Rattle.bars.specs.declared.Bar.{Bar}
 use Rattle.bars.specs.Bars.{Merged}
 use Rattle.bars.specs.Lists.{last, init}
-use Rattle.machine.specs.declared.Mark.TheVariants.{D}
 use Rattle.machine.specs.Strokes.{Stroke}
 use Rattle.machine.specs.Break.{high_of, low_of}
 use Rattle.machine.specs.Stand.{Settings, State}
@@ -24,17 +23,17 @@ unfoldable pub time_or0 : Option Merged → ℤ
 time_or0 none = pos 0
 time_or0 (some k) = k.bar.time
 
--- of the last kept stroke, what its break goes by; where none is kept nothing is read of it
-unfoldable pub last_of : Option Stroke → Last
+-- of the last kept stroke, if there is one, what its break goes by
+unfoldable pub last_of : Option Stroke → Std.Option Last
 unfolding high_of low_of time_or0 last init
-last_of none = record { mark = D; high = of_bits binary64 0; low = of_bits binary64 0; bars = 2; time = pos 0 }
+last_of none = None
 last_of (some b) =
-    record { mark = b.start.mark; high = high_of b; low = low_of b; bars = length b.bars; time = time_or0 (last (init b.bars)) }
+    Some (record { mark = b.start.mark; high = high_of b; low = low_of b; bars = length b.bars; time = time_or0 (last (init b.bars)) })
 
 -- what the feed of b would do
 unfoldable pub plan_for : Settings → State → Bar → Plan
 unfolding plan_of last_of last candle_of merged
-plan_for c s b = plan_of (length s.strokes) c.minimum (last_of (last s.strokes)) (map candle_of (merged s b))
+plan_for c s b = plan_of c.minimum (last_of (last s.strokes)) (map candle_of (merged s b))
 
 -- what the asking answers: the number of the first "no", and where there is none, whether b is later than the newest raw bar, and the plan
 pub record AskedOf (c : Settings) (s : State) (b : Bar) (r : Asked) : Type 0 where

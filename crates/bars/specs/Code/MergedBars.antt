@@ -1,5 +1,6 @@
 -- Merging without elements: what the times, prices and volumes of merged bars are, for asking what a bar would do before anything is written. Definitions only.
 use Rattle.std.specs.Prelude.{Bool, true, false, cond, List, [], ◌∷◌, ◌++◌, take, ℤ, Float}
+use Rattle.std.specs.Prelude as Std
 use Rattle.std.specs.Float.{binary64}
 use Rattle.std.specs.Float.Ieee.{lt, add}
 use Rattle.arith.specs.Order.{max_of, min_of}
@@ -75,7 +76,7 @@ unfoldable pub remove_include_after : Float → Merged → Bar → List Merged
 unfolding settle lt contains
 remove_include_after h k2 k3 = settle (lt h k2.bar.high) (lt k2.bar.high h) (contains k2.bar k3) k2 k3
 
--- the answer of remove_include, read as what stands in place of k2: its bar alone where it says merged, and else k2 and its bar
-unfoldable pub in_place_of : {A : Type 0} → A → Bool → A → List A
-in_place_of k2 true k = k ∷ []
-in_place_of k2 false k = k2 ∷ k ∷ []
+-- the answer of remove_include, read as what stands in place of k2: the merged bar where there is one, and else k2 and k3
+unfoldable pub in_place_of : {A : Type 0} → A → Std.Option A → A → List A
+in_place_of k2 (Std.Some k) k3 = k ∷ []
+in_place_of k2 Std.None k3 = k2 ∷ k3 ∷ []

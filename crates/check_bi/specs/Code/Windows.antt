@@ -1,9 +1,8 @@
 -- The windows of a store's rows of prices that are no fractal, which the scan passes over. Definitions only.
-use Rattle.std.specs.Prelude.{ℕ, ◌+◌, ◌-◌, ◌≤◌, ◌<◌, Bool, true, false, List, [], ◌≡◌, get_or, ℤ, pos, Float}
+use Rattle.std.specs.Prelude.{ℕ, ◌+◌, ◌-◌, ◌≤◌, ◌<◌, Bool, true, false, List, [], ◌≡◌, get_or, ℤ, pos, Float, Option, Some, None}
 use Rattle.check_bi.specs.declared.check_fx.Candle.{Candle}
 use Rattle.check_bi.specs.declared.check_fx.Fx.{Fx}
 use Rattle.machine.specs.declared.Mark.{Mark}
-use Rattle.machine.specs.declared.Mark.TheVariants.{D}
 use Rattle.check_bi.specs.Code.Scan.{top_of, fx_at, mark_if, taken_of}
 use Rattle.check_bi.specs.Code.View.{candle_from}
 
@@ -12,10 +11,10 @@ unfoldable pub row_at : List (List Float) → ℕ → Candle
 unfolding candle_from
 row_at ps i = candle_from (pos 0) (get_or ps i [])
 
--- whether a scan takes the window whose first bar is in row i
-unfoldable pub taken_at : List (List Float) → Bool → Mark → ℕ → Bool
+-- whether a scan whose last fractal has this mark, or that has taken none, takes the window whose first bar is in row i
+unfoldable pub taken_at : List (List Float) → Option Mark → ℕ → Bool
 unfolding row_at taken_of
-taken_at ps none k i = taken_of none k (row_at ps i) (row_at ps (i + 1)) (row_at ps (i + 2))
+taken_at ps last i = taken_of last (row_at ps i) (row_at ps (i + 1)) (row_at ps (i + 2))
 
 -- the bar at place i
 abbrev pub bar_at : List ℤ → List (List Float) → ℕ → Candle
@@ -37,6 +36,16 @@ pub record NextWindow (t : ℕ → Bool) (n i r : ℕ) : Type 0 where
   pub before : NoneBetween t n i r
   pub here : r + 2 < n → t r ≡ true
 
--- the first c windows of the rows hold no fractal; a scan that has taken none does not look at the mark
+-- the first of those from i on that passes it, if one does
+pub record FirstWindow (t : ℕ → Bool) (n i r : ℕ) : Type 0 where
+  pub before : NoneBetween t n i r
+  pub fits : r + 2 < n
+  pub here : t r ≡ true
+
+abbrev pub NextIn : (ℕ → Bool) → ℕ → ℕ → Option ℕ → Type 0
+NextIn t n i (Some r) = FirstWindow t n i r
+NextIn t n i None = (j : ℕ) → i ≤ j → j + 2 < n → t j ≡ false
+
+-- the first c windows of the rows hold no fractal
 abbrev pub NoFractals : List (List Float) → ℕ → Type 0
-NoFractals ps c = (j : ℕ) → j < c → taken_at ps true D j ≡ false
+NoFractals ps c = (j : ℕ) → j < c → taken_at ps None j ≡ false

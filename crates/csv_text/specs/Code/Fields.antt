@@ -1,13 +1,11 @@
 -- What the code keeps of a record's fields. Definitions only.
-use Rattle.std.specs.Prelude.{ℕ, ◌+◌, ◌≤◌, ◌<◌, ◌≡◌, Bool, ◌&&◌, length, ltb, pos, Float}
+use Rattle.std.specs.Prelude.{ℕ, ◌≤◌, ◌<◌, ◌≡◌, Bool, ◌&&◌, List, ◌++◌, length, Some, None, ltb, ℤ, Float}
+use Rattle.std.specs.Borrow.{Bor}
+use Rattle.std.specs.Prelude as Std
 use Rattle.std.proofs.Math.Option.{Option, none, some}
 use Rattle.bars.specs.declared.Bar.{Bar}
 use Rattle.csv_text.specs.declared.numerals.Numeral.{Numeral}
 use Rattle.csv_text.specs.declared.records.Fields as F
-use Rattle.csv_text.specs.declared.records.FieldsAt.{FieldsAt}
-use Rattle.csv_text.specs.declared.records.FieldsAt.TheVariants as A
-use Rattle.csv_text.specs.declared.records.End.{End}
-use Rattle.csv_text.specs.declared.records.End.TheVariants as E
 use Rattle.csv_text.specs.Written.{Record, text_of, end_text}
 use Rattle.csv_text.specs.Values.{nearest_of, seconds_by}
 use Rattle.csv_text.specs.Code.Numerals.{numeral_of}
@@ -25,19 +23,19 @@ numerals_of r =
       amount = numeral_of r.amount.number;
     }
 
--- the code's answer where o is read: the record's length is the place behind it
-abbrev pub ReadsRecord : Option Record → FieldsAt → Type 0
-ReadsRecord none A.Bad = Unit {0}
-ReadsRecord none (A.Are f e) = ⊥
-ReadsRecord (some r) A.Bad = ⊥
-ReadsRecord (some r) (A.Are f e) = (f ≡ numerals_of r) × (e ≡ length (text_of r))
+-- the code's answer where o is read, with the record's length
+abbrev pub ReadsRecord : Option Record → Std.Option (F.Fields × ℕ) → Type 0
+ReadsRecord none None = Unit {0}
+ReadsRecord none (Some a) = ⊥
+ReadsRecord (some r) None = ⊥
+ReadsRecord (some r) (Some a) = (a.0 ≡ numerals_of r) × (a.1 ≡ length (text_of r))
 
--- at the place behind the last field
-abbrev pub ReadsEnd : ℕ → Option Bool → End → Type 0
-ReadsEnd at none E.Bad = Unit {0}
-ReadsEnd at none (E.At e) = ⊥
-ReadsEnd at (some c) E.Bad = ⊥
-ReadsEnd at (some c) (E.At e) = e ≡ at + length (end_text c)
+-- the text behind the record's end, from the text behind the last field on
+abbrev pub ReadsEnd : List ℕ → Option Bool → Std.Option (Bor (List ℕ)) → Type 0
+ReadsEnd t none None = Unit {0}
+ReadsEnd t none (Some r) = ⊥
+ReadsEnd t (some c) None = ⊥
+ReadsEnd t (some c) (Some r) = t ≡ end_text c ++ r.now
 
 unfoldable pub is_few : Numeral → Bool
 is_few n = ltb n.digits 1000000000000000
@@ -63,12 +61,12 @@ pub record FieldsFit (f : F.Fields) : Type 0 where
 abbrev pub value_in : Numeral → Float
 value_in n = nearest_of n.minus n.digits n.places
 
-unfoldable pub bar_in : ℕ → F.Fields → Bar
+unfoldable pub bar_in : ℤ → F.Fields → Bar
 unfolding seconds_by nearest_of
-bar_in place f =
+bar_in id f =
     record {
       time = seconds_by f.time.minus f.time.digits;
-      id = pos place;
+      id = id;
       «open» = value_in f.«open»;
       close = value_in f.close;
       high = value_in f.high;

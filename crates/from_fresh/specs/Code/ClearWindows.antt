@@ -1,5 +1,5 @@
 -- How many of the first windows of the unfinished bars hold no fractal, from feed to feed. Definitions only.
-use Rattle.std.specs.Prelude.{ℕ, ◌+◌, ◌-◌, ◌≤◌, ◌<◌, ◌≡◌, true, List, Float}
+use Rattle.std.specs.Prelude.{None, ℕ, ◌+◌, ◌-◌, ◌≤◌, ◌<◌, ◌≡◌, true, List, Float}
 use Rattle.machine.specs.declared.Mark.TheVariants.{D}
 use Rattle.check_bi.specs.Code.Windows.{taken_at, NoneBetween, NoFractals}
 use Rattle.strokes.specs.declared.Stand.{Stand}
@@ -14,4 +14,4 @@ pub record Clear (s : Stand) (m : Stores) (c : ℕ) : Type 0 where
 pub record ClearAfter (ps : List (List Float)) (strokes made raw raw' u u' c r : ℕ) : Type 0 where
   pub known : ℕ
   pub kept : 0 < known → (strokes ≡ 0) × (made ≡ 0) × (0 < c) × (raw' ≡ raw + 1) × (known ≡ c + u' - (u + 1))
-  pub looked : NoneBetween (taken_at ps true D) u' known r
+  pub looked : NoneBetween (taken_at ps None) u' known r

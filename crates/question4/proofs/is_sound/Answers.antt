@@ -3,4 +3,4 @@ use Rattle.question4.proofs.is_sound.Goals as goal
 
 pub returns : goal.returns
 unfolding question4
-returns c = c.stores_sound.ensures
+returns c = c.is_sound.ensures

@@ -23,8 +23,8 @@ pub record Listing : Type 0 where
   pub store : FractalStore
   pub listed : Listed
 
-abbrev pub listing : List (List ℤ) → List (List Float) → Listed → Listing
-listing ts ps s = record { store = fractal_store ts ps; listed = s }
+abbrev pub listing : FractalStore → Listed → Listing
+listing d s = record { store = d; listed = s }
 
 -- the output with these rows at a place, where it is written
 unfoldable pub store_if : Bool → FractalStore → ℕ → List ℤ → List Float → FractalStore

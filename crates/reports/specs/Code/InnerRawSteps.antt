@@ -1,7 +1,7 @@
 -- How the inner raw bars of a stroke are listed, element by element. Definitions only.
-use Rattle.std.specs.Prelude.{ℕ, ◌+◌, ◌≤◌, List, ◌≡◌, T, ℤ, length, take, Float}
+use Rattle.std.specs.Prelude.{ℕ, ◌+◌, ◌≤◌, List, ◌≡◌, T, ℤ, length, take}
 use Rattle.bars.specs.declared.Bar.{Bar}
-use Rattle.stores.specs.Stores.{RawStore, raw_store}
+use Rattle.stores.specs.Stores.{RawStore}
 use Rattle.stores.specs.Code.StoreRows.{RoomRaw, bar_at, set_bar, rising, place_of}
 use Rattle.sound.specs.Code.SoundStand.{named_rows}
 use Rattle.named.specs.declared.stroke_rows.StrokeRows.{StrokeRows}
@@ -21,8 +21,8 @@ pub record Filling : Type 0 where
   pub columns : RawStore
   pub next : ℕ
 
-abbrev pub filling : List ℤ → List ℤ → List (List Float) → ℕ → Filling
-filling ts is ps k = record { columns = raw_store ts is ps; next = k }
+abbrev pub filling : RawStore → ℕ → Filling
+filling d k = record { columns = d; next = k }
 
 -- how they go on with the bar of the time t
 abbrev pub put_named : RawStore → ℕ → Filling → ℤ → Filling

@@ -8,8 +8,8 @@ use Rattle.stores.specs.Stores.{RawStore}
 use Rattle.stores.specs.Code.StoreRows.{SizedRaw, rising}
 use Rattle.machine.specs.declared.Direction.{Direction}
 use Rattle.reports.specs.declared.ubi.Extremes.{Extremes}
-use Rattle.reports.specs.declared.ubi.FractalBars.{FractalBars}
-use Rattle.reports.specs.declared.ubi.UbiAnswer.{UbiAnswer}
+use Rattle.reports.specs.declared.fractal_walk.FractalBars.{FractalBars}
+use Rattle.reports.specs.declared.ubi.UbiSummary.{UbiSummary}
 use Rattle.reports.specs.Unfinished.{one_of}
 use Rattle.reports.specs.UbiAnswers.{no_bar}
 
@@ -40,10 +40,9 @@ unfolding see at_times
 see_at raw e t = foldl see e (at_times raw (t ∷ []))
 
 -- of these parts; high and low are those of the two bars
-unfoldable pub ubi_of : Direction → Bar → Bar → ℕ → ℕ → ℕ → FractalBars → UbiAnswer
+unfoldable pub ubi_of : Direction → Bar → Bar → ℕ → ℕ → ℕ → FractalBars → UbiSummary
 ubi_of d h w bars raw fractals first =
     record {
-      failed = 0;
       direction = d;
       high = h.high;
       low = w.low;

@@ -1,8 +1,8 @@
 -- What merging into a tail of bars, kept in rows of one's own, says of those rows. Definitions only.
-use Rattle.std.specs.Prelude.{ℕ, ◌+◌, ◌≤◌, Bool, List, ◌++◌, ◌≡◌, take, drop}
+use Rattle.std.specs.Prelude.{ℕ, ◌+◌, ◌≤◌, Bool, true, false, List, ◌++◌, ◌≡◌, take, drop, Option, None, Some}
 use Rattle.bars.specs.declared.Bar.{Bar}
 use Rattle.stores.specs.Stores.{RawStore, raw_store, raw_bars}
-use Rattle.bars.specs.Code.MergedBars.{behind}
+use Rattle.bars.specs.Code.MergedBars.{behind, merge_bars}
 
 -- the rows from place n on
 unfoldable pub rows_from : ℕ → RawStore → RawStore
@@ -15,3 +15,8 @@ pub record TailHas (any : Bool) (k : Bar) (s : RawStore) (m n : ℕ) (t : RawSto
   pub least : m ≤ r
   pub most : r ≤ m + n
   pub beyond : rows_from r t ≡ rows_from r s
+
+-- the bar b was merged into the first m bars of the tail s, behind the bar that stands before it, where there is one
+unfoldable pub TailTakes : Option Bar → RawStore → ℕ → Bar → RawStore → ℕ → Type 0
+TailTakes None s m b t r = TailHas false b s m 1 t r (merge_bars (behind false b ++ take m (raw_bars s)) b)
+TailTakes (Some k) s m b t r = TailHas true k s m 1 t r (merge_bars (behind true k ++ take m (raw_bars s)) b)

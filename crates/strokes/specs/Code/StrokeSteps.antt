@@ -2,6 +2,7 @@
 -- the oldest one shed. Definitions only.
 use Rattle.std.specs.Prelude.{ℕ, zero, suc, ◌+◌, ◌-◌, ◌*◌, ◌/◌, ◌≤◌, ◌<◌, Bool, true, false, List, [], ◌∷◌, ◌++◌, map, ◌≡◌, length, take, drop, get_or, set, T, ltb, ℤ, pos, Float}
 use Rattle.std.proofs.Math.Option.{Option, none, some}
+use Rattle.std.specs.Prelude as Std
 use Rattle.std.specs.Float.{nan}
 use Rattle.arith.specs.Order.{max_of, min_of}
 use Rattle.bars.specs.declared.Bar.{Bar}
@@ -53,27 +54,27 @@ fractals_between s first end = check_fxs (drop first (take end (map plain_bar (r
 
 -- ---- window by window
 
--- the mark of the last one taken, once n were
-unfoldable pub last_mark : ℕ → Mark → Option Mark
-last_mark zero m = none
-last_mark (suc n) m = some m
+-- the mark of the last one taken, if one was
+unfoldable pub last_mark : Std.Option Mark → Option Mark
+last_mark Std.None = none
+last_mark (Std.Some m) = some m
 
 unfoldable pub last_of : Written → Option Mark
 unfolding last_mark
-last_of w = last_mark w.count w.last
+last_of w = last_mark w.last
 
 -- the store, and what has been written to it
 pub record Writing : Type 0 where
   pub store : FractalStore
   pub written : Written
 
-abbrev pub writing : List (List ℤ) → List (List Float) → Written → Writing
-writing ts ps w = record { store = fractal_store ts ps; written = w }
+abbrev pub writing : FractalStore → Written → Writing
+writing f w = record { store = f; written = w }
 
 unfoldable pub put_if : Bool → Writing → ℕ → Mark → Bar → Bar → Bar → Writing
 unfolding set_fractal
 put_if true s at m a b c =
-    record { store = set_fractal s.store (at + s.written.count) a b c; written = record { count = s.written.count + 1; last = m } }
+    record { store = set_fractal s.store (at + s.written.count) a b c; written = record { count = s.written.count + 1; last = Std.Some m } }
 put_if false s at m a b c = s
 
 -- a fractal of mark m, unless the last one taken has this mark

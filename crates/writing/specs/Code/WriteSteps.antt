@@ -1,6 +1,6 @@
 -- What the writing steps of a feed do, each on the stores that it is lent: the bar is merged, the stroke that is found is put on, the unfinished bars are left
 -- behind it, a broken stroke is joined, and the raw bar is kept. Definitions only.
-use Rattle.std.specs.Prelude.{ℕ, zero, suc, ◌+◌, ◌≤◌, ◌<◌, Bool, true, false, List, [], ◌∷◌, ◌++◌, ◌≡◌, length, drop, T, ℤ}
+use Rattle.std.specs.Prelude.{is_some, ℕ, zero, suc, ◌+◌, ◌≤◌, ◌<◌, Bool, true, false, List, [], ◌∷◌, ◌++◌, ◌≡◌, length, drop, T, ℤ}
 use Rattle.std.specs.Int.Signed.{lt_z}
 use Rattle.bars.specs.declared.Bar.{Bar}
 use Rattle.bars.specs.Bars.{Merged}
@@ -18,6 +18,7 @@ use Rattle.strokes.specs.Code.ElementCounts.{StaySized}
 use Rattle.strokes.specs.Code.BarSteps.{RisingRaw, LastHas, CanMerge, kept_raw, kept_unfinished, without_last, stored_stroke}
 use Rattle.strokes.specs.Code.StrokeSteps.{Kept, Unmoved, Makeable, kept_strokes, made_stroke, last_place, last_bars}
 use Rattle.asking.specs.declared.plan.Plan.{Plan}
+use Rattle.asking.specs.Code.FeedPlan.{start_in, end_in, bars_made}
 
 -- ---- merging
 
@@ -46,7 +47,7 @@ add_if false bs b = bs
 -- where one is made, its bars stand in the unfinished store u and have room in the stroke store
 pub record CanMake (s : Stand) (u k : MergedStore) (f : FractalStore) (p : Plan) : Type 0 where
   pub kept : Kept s k f
-  pub makes : p.found.made ≡ true → Makeable s u (p.cut + p.found.start.place) p.found.bars
+  pub makes : is_some p.found ≡ true → Makeable s u (p.cut + start_in p.found) (bars_made p.found)
 
 -- of a stand and its stroke store: where one is made, the stroke of so many unfinished bars from place `first` on is put on
 pub record MadeWhere (made : Bool) (s : Stand) (u k : MergedStore) (f : FractalStore) (first bars : ℕ) (r : Stand) (k' : MergedStore) (f' : FractalStore) : Type 0 where
@@ -79,7 +80,8 @@ pub record CanBreak (s : Stand) (k : MergedStore) (l : List Merged) : Type 0 whe
 
 -- the bars from the found stroke's end on are left, or from the cut on
 unfoldable pub rest_of : Plan → ℕ
-rest_of p = p.cut + p.found.end.place
+unfolding end_in
+rest_of p = p.cut + end_in p.found
 
 -- such bars there are, and where the plan breaks the last stroke, it can break
 pub record CanLeave (s : Stand) (u k : MergedStore) (p : Plan) : Type 0 where
@@ -87,7 +89,7 @@ pub record CanLeave (s : Stand) (u k : MergedStore) (p : Plan) : Type 0 where
   pub strokes : SizedMerged k s.rooms.strokes
   pub fits : s.unfinished ≤ s.rooms.unfinished
   pub inside : rest_of p ≤ s.unfinished
-  pub breaks : p.broken ≡ true → CanBreak s k (drop (rest_of p) (kept_unfinished s u))
+  pub breaks : is_some p.broken ≡ true → CanBreak s k (drop (rest_of p) (kept_unfinished s u))
 
 -- ---- the raw bars that are kept
 

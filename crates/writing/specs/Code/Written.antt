@@ -35,7 +35,7 @@ moved_of s u k f = move s.minimum (kept_unfinished s u) (kept_strokes s k f)
 -- the plan for the unfinished bars l and the strokes bs
 unfoldable pub plan_with : ℕ → List Merged → List Stroke → Plan
 unfolding plan_of last_of last candle_of
-plan_with minimum l bs = plan_of (length bs) minimum (last_of (last bs)) (map candle_of l)
+plan_with minimum l bs = plan_of minimum (last_of (last bs)) (map candle_of l)
 
 -- the plan p is theirs, the stores hold them, and questions 11 and 12 have made room
 pub record CanMove (s : Stand) (u k : MergedStore) (f : FractalStore) (p : Plan) : Type 0 where

@@ -1,6 +1,6 @@
 -- The zone under construction: what ZS::new and is_valid read of its strokes, kept up as each stroke joins. That a zone so grown is ZS::new of all its
 -- strokes is `zone-grown` of proofs/ZoneFolds. Definitions only.
-use Rattle.std.specs.Prelude.{ℕ, Bool, true, false, not, ◌&&◌, eqb, negsuc, Float}
+use Rattle.std.specs.Prelude.{Bool, true, false, not, ◌&&◌, Option, Some, None, negsuc, Float}
 use mathlib.Core.List.{List, foldl}
 use Rattle.std.specs.Float.{inf, fin, binary64}
 use Rattle.std.specs.Float.Ieee.{lt, add, sub, mul}
@@ -11,15 +11,14 @@ use Rattle.zones.specs.declared.Summary.{Summary}
 use Rattle.zones.specs.declared.zone_building.GrowingZone.{GrowingZone}
 use Rattle.zones.specs.Zones.{Zone, meets_range}
 
--- one stroke: each edge is a fold from an infinity. A missing second or third stroke is the one before it.
+-- one stroke: each edge is a fold from an infinity
 unfoldable pub started : Summary → GrowingZone
 unfolding max_of min_of
 started s =
     record {
-      few = 1;
       first = s;
-      second = s;
-      third = s;
+      second = None;
+      third = None;
       last = s;
       zg = min_of (inf false) s.high;
       zd = max_of (inf true) s.low;
@@ -28,15 +27,14 @@ started s =
       later = true;
     }
 
--- with s as the second or the third stroke, so that there are `few` and b is the second: all four edges take it in
-unfoldable pub joined_early : GrowingZone → ℕ → Summary → Summary → GrowingZone
+-- with s as the second or the third stroke: all four edges take it in
+unfoldable pub joined_early : GrowingZone → Option Summary → Option Summary → Summary → GrowingZone
 unfolding max_of min_of
-joined_early z few b s =
+joined_early z b c s =
     record {
-      few = few;
       first = z.first;
       second = b;
-      third = s;
+      third = c;
       last = s;
       zg = min_of z.zg s.high;
       zd = max_of z.zd s.low;
@@ -50,7 +48,6 @@ unfoldable pub joined_later : GrowingZone → Summary → GrowingZone
 unfolding max_of min_of meets_range
 joined_later z s =
     record {
-      few = 3;
       first = z.first;
       second = z.second;
       third = z.third;
@@ -62,16 +59,16 @@ joined_later z s =
       later = z.later && meets_range z.zg z.zd s;
     }
 
--- by whether there is one stroke so far, and whether there are two
-unfoldable pub joined_if : Bool → Bool → GrowingZone → Summary → GrowingZone
+-- by the second stroke and the third, so far as they are there
+unfoldable pub joined_if : Option Summary → Option Summary → GrowingZone → Summary → GrowingZone
 unfolding joined_early joined_later
-joined_if true b z s = joined_early z 2 s s
-joined_if false true z s = joined_early z 3 z.second s
-joined_if false false z s = joined_later z s
+joined_if None c z s = joined_early z (Some s) None s
+joined_if (Some b) None z s = joined_early z (Some b) (Some s) s
+joined_if (Some b) (Some c) z s = joined_later z s
 
 unfoldable pub joined_of : GrowingZone → Summary → GrowingZone
 unfolding joined_if
-joined_of z s = joined_if (eqb z.few 1) (eqb z.few 2) z s
+joined_of z s = joined_if z.second z.third z s
 
 -- the zone of the stroke a and of those of the list after it
 unfoldable pub grown : Summary → List Summary → GrowingZone
@@ -93,10 +90,16 @@ unfoldable pub zz_of : GrowingZone → Float
 unfolding add sub mul
 zz_of z = add binary64 z.zd (mul binary64 (sub binary64 z.zg z.zd) (fin false 1 (negsuc 0)))
 
+-- a stroke that is not there is not asked
+unfoldable pub meets_if : Float → Float → Option Summary → Bool
+unfolding meets_range
+meets_if g d None = true
+meets_if g d (Some s) = meets_range g d s
+
 -- the first three strokes meet the range
 unfoldable pub first_meet : GrowingZone → Bool
-unfolding meets_range
-first_meet z = meets_range z.zg z.zd z.first && (meets_range z.zg z.zd z.second && meets_range z.zg z.zd z.third)
+unfolding meets_range meets_if
+first_meet z = meets_range z.zg z.zd z.first && (meets_if z.zg z.zd z.second && meets_if z.zg z.zd z.third)
 
 -- is_valid
 unfoldable pub valid_of : GrowingZone → Bool

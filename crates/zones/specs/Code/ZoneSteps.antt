@@ -14,11 +14,6 @@ pub record RoomZones (d : ZoneColumns) (n : ℕ) : Type 0 where
   pub prices : n ≤ length d.prices
   pub numbers : n ≤ length d.numbers
 
-pub record RoomStrokes (d : StrokeColumns) (n : ℕ) : Type 0 where
-  pub times : n ≤ length d.times
-  pub prices : n ≤ length d.prices
-  pub codes : n ≤ length d.codes
-
 -- before the first stroke: no zone, so that nothing is read of what stands there
 unfoldable pub no_zone : Building
 unfolding started no_stroke

@@ -4,8 +4,8 @@ use Rattle.arith.specs.declared.sums.SlopeSums.{SlopeSums}
 use Rattle.arith.specs.declared.sums.MeanSums.{MeanSums}
 use Rattle.arith.specs.Code.Accumulators.{mean_more, slope_start, slope_more, slope_end}
 use mathlib.Core.List.{foldl}
-use Rattle.std.proofs.Common.{ap, ◌∙◌}
+use Rattle.std.proofs.Common.{ap, ◌∙◌, rules}
 use Rattle.arith.proofs.sums.slope.Goals as goal
 
 pub returns : goal.returns
-returns c = let l = c.args.ys.now in (c.slope.ensures ∙ ap slope_end (c.each.ensures ∙ ap (λ (s : SlopeSums). foldl slope_more s l) (c.new-2.ensures ∙ ap slope_start (c.each-s.ensures ∙ ap (λ (s : MeanSums). foldl mean_more s l) c.new.ensures))) ∙ slope-is l (c.shared_slice_known-1.given 0), exact_divisor)
+returns c = let l = c.args.ys.now in (c.slope.ensures ∙ ap slope_end (c.each.ensures ∙ ap (λ (s : SlopeSums). foldl slope_more s l) (c.new-2.ensures ∙ ap slope_start (c.each-s.ensures ∙ ap (λ (s : MeanSums). foldl mean_more s l) c.new.ensures))) ∙ slope-is l (search rules), exact_divisor)

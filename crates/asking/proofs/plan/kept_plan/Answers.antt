@@ -1,8 +1,5 @@
-use mathlib.Core.Path.{refl}
-use Rattle.asking.specs.Code.FeedPlan.{kept_of}
 use Rattle.asking.proofs.PlanLaws.{kept_in}
 use Rattle.asking.proofs.plan.kept_plan.Goals as goal
 
-pub returns : goal.returns
-unfolding kept_of
-returns c = let a = c.args in (refl, kept_in a.cut a.f a.total c.requires.0 c.requires.1)
+pub returns-clause-in_view : goal.returns-clause-in_view
+returns-clause-in_view c = let a = c.args in kept_in a.cut _ a.found a.total c.requires.0 c.requires.1

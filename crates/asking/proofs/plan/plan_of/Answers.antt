@@ -1,36 +1,20 @@
-use native.Mathlib.Omega.{arith}
-use mathlib.Core.Path.{refl}
-use Rattle.asking.proofs.PlanLaws.{plan-few, plan-first, plan-later, none-fits, fits_all_lem}
-use borrow.Author.Rules.{rules}
+use Rattle.std.proofs.Common.{arith}
+use Rattle.asking.specs.Code.FeedPlan.{end_in, bars_made}
+use Rattle.asking.proofs.PlanLaws.{plan_few, plan_none, plan_some}
 use Rattle.asking.proofs.plan.plan_of.Goals as goal
 
 pub kept_plan-requires : goal.kept_plan-requires
-kept_plan-requires c = let p = c.requires.fact_1 in none-fits c.no_bi-f.result _ c.no_bi-f.ensures p.4
+unfolding end_in bars_made
+kept_plan-requires c = (omega arith, omega arith, omega (arith, c.len-then-len-lt3.ensures, c.args.view.few))
 
-pub returns-then-total-lt3 : goal.returns-then-total-lt3
-returns-then-total-lt3 c = let a = c.args in let p = c.requires.fact_1 in plan-few a.ts.now a.us.now a.ps.now a.qs.now a.n a.m p.0 p.1 p.2 p.3 a.kept a.minimum a.last _ c.no_bi-f.result c.if-total-lt3.true c.no_bi-f.ensures c.kept_plan.ensures
+pub returns-then-len-lt3-clause-value : goal.returns-then-len-lt3-clause-value
+returns-then-len-lt3-clause-value c =
+    plan_few c.args.view c.args.minimum _ c.args.last _ c.len-then-len-lt3.ensures (omega (arith, c.len.ensures, c.if-len-lt3.true)) c.kept_plan.ensures.value
 
-pub first_plan-requires : goal.first_plan-requires
-first_plan-requires c = let p = c.requires.fact_1 in
-    record { fact_1 = (p.0, p.1, p.2, p.3, p.4); fact_2 = c.requires.fact_2 }
+pub returns-in-None-clause-value : goal.returns-in-None-clause-value
+returns-in-None-clause-value c =
+    plan_none c.args.view c.args.minimum _ c.args.last (omega (arith, c.len.ensures, c.if-len-lt3.false)) c.in-None.is c.first_plan.ensures.value
 
-pub returns-then-kept-eq0 : goal.returns-then-kept-eq0
-returns-then-kept-eq0 c = let a = c.args in let p = c.requires.fact_1 in plan-first a.ts.now a.us.now a.ps.now a.qs.now a.n a.m p.0 p.1 p.2 p.3 a.kept a.minimum a.last _ c.if-total-lt3.false c.if-kept-eq0.true c.first_plan.ensures
-
-pub check_bi-f-requires : goal.check_bi-f-requires
-check_bi-f-requires c = let p = c.requires.fact_1 in (p.0, p.1, p.2, p.3, p.4, search rules)
-
-pub last_with-b-requires : goal.last_with-b-requires
-last_with-b-requires c = let p = c.requires.fact_1 in let f = c.check_bi-f.ensures.1 in let y = f.bars_in in (f.enough, omega (arith, p.4), p.5, p.6)
-
-pub overflow_sub-total : goal.overflow_sub-total
-overflow_sub-total c = let q = c.if-total-lt3.false in omega arith
-
-pub candle_at-k-requires : goal.candle_at-k-requires
-candle_at-k-requires c = let p = c.requires.fact_1 in let q = c.if-total-lt3.false in (p.0, p.1, p.2, p.3, omega arith)
-
-pub broken_plan-requires : goal.broken_plan-requires
-broken_plan-requires c = let p = c.requires.fact_1 in let l = c.last_with-b.ensures in (p.0, p.2, p.4, fits_all_lem _ _ c.check_bi-f.ensures.1, l.1, l.2)
-
-pub returns : goal.returns
-returns c = let a = c.args in let p = c.requires.fact_1 in plan-later a.ts.now a.us.now a.ps.now a.qs.now a.n a.m p.0 p.1 p.2 p.3 a.kept a.minimum a.last _ c.check_bi-f.result c.last_with-b.result c.candle_at-k.result _ c.if-total-lt3.false c.if-kept-eq0.false c.check_bi-f.ensures.0 c.last_with-b.ensures.0 refl c.candle_at-k.ensures c.broken_plan.ensures
+pub returns-in-Some-clause-value : goal.returns-in-Some-clause-value
+returns-in-Some-clause-value c =
+    plan_some c.args.view c.args.minimum _ c.args.last _ (omega (arith, c.len.ensures, c.if-len-lt3.false)) c.in-Some.is c.later_plan.ensures.value

@@ -1,26 +1,35 @@
-use Prim.Native.Nat.{◌+◌}
-use native.Mathlib.Omega.{arith}
-use mathlib.Core.Path.{refl, sym, ap, ◌∙◌}
-use lib.ListN.{drop}
-use lib.IntN.{ℤ}
+use Rattle.std.proofs.Common.{arith, ◌≡◌, ◌+◌, ◌∙◌, ap, sym, ℤ, drop, refl}
+use borrow.Author.Rules.{rules}
 use mir.Syntax.{w64}
 use mir.Val.{to_z, of_z}
 use mir.ValLaws.{to_z-of_z}
 use Rattle.stores.specs.Code.StoreRows.{place_of}
-use Rattle.check_bi.specs.Code.View.{view}
-use Rattle.check_bi.proofs.ScanViews.{length-view}
+use Rattle.check_bi.specs.declared.check_fx.Candle.{Candle}
+use Rattle.check_bi.specs.Code.View.{times_in, places}
+use Rattle.check_bi.specs.Code.View.{candle_from}
+use Rattle.check_bi.proofs.ScanViews.{view-times}
 use Rattle.asking.proofs.PlanLaws.{skip_turn, skip_here, skip_end}
-use borrow.Author.Rules.{rules}
 use Rattle.asking.proofs.plan.skip.Goals as goal
 
-pub loop-i-init : goal.loop-i-init
-loop-i-init c = (search rules, refl)
+pub returns-then-t-candle : goal.returns-then-t-candle
+unfolding candle_from
+returns-then-t-candle c =
+    let v = times_in c.args.view in
+    let t = to_z-of_z w64 c.args.t c.ranges.t in
+    let x = to_z-of_z w64 c.candle.result.time (record { sfits = search rules }) ∙ ap (λ (k : Candle). k.time) c.candle.ensures in
+    let so_far = ap (λ (s : ℤ). c.loop-i.i + place_of s (drop c.loop-i.i v)) (sym t) ∙ c.loop-i.invariant ∙ ap (λ (s : ℤ). c.args.lo + place_of s (drop c.args.lo v)) t in
+    (skip_here v c.args.t c.loop-i.i (places c.args.view) _ (view-times c.args.view) so_far _ _ (omega arith) x t c.if-t-candle.true, omega arith)
 
 pub loop-i-preserved : goal.loop-i-preserved
-loop-i-preserved c = let a = c.args in let l = c.loop-i in let v = view a.n a.ts.now a.m a.us.now in let g = length-view a.ts.now a.us.now a.n a.m c.requires.0 c.requires.1 in let q = c.loop-i-test.true in (omega arith, skip_turn v (to_z w64 (of_z w64 a.t)) l.i (a.n + a.m) _ g l.invariant.1 q (sym c.is_before.ensures ∙ c.if-is_before.true))
-
-pub returns-else-is_before : goal.returns-else-is_before
-returns-else-is_before c = let a = c.args in let l = c.loop-i in let v = view a.n a.ts.now a.m a.us.now in let g = length-view a.ts.now a.us.now a.n a.m c.requires.0 c.requires.1 in let q = c.loop-i-test.true in (skip_here v (to_z w64 (of_z w64 a.t)) l.i (a.n + a.m) _ g l.invariant.1 q (sym c.is_before.ensures ∙ c.if-is_before.false) ∙ ap (λ (x : ℤ). a.lo + place_of x (drop a.lo v)) (to_z-of_z w64 a.t c.ranges.t), l.invariant.0)
+unfolding candle_from
+loop-i-preserved c =
+    let v = times_in c.args.view in
+    let x = to_z-of_z w64 c.candle.result.time (record { sfits = search rules }) ∙ ap (λ (k : Candle). k.time) c.candle.ensures in
+    skip_turn v (to_z w64 (of_z w64 c.args.t)) c.loop-i.i (places c.args.view) _ (view-times c.args.view) c.loop-i.invariant _ _ (omega arith) x refl c.if-t-candle.false
 
 pub returns : goal.returns
-returns c = let a = c.args in let l = c.loop-i in let v = view a.n a.ts.now a.m a.us.now in let g = length-view a.ts.now a.us.now a.n a.m c.requires.0 c.requires.1 in (skip_end v (to_z w64 (of_z w64 a.t)) l.i (a.n + a.m) _ g l.invariant.1 c.loop-i-test.false ∙ ap (λ (x : ℤ). a.lo + place_of x (drop a.lo v)) (to_z-of_z w64 a.t c.ranges.t), l.invariant.0)
+returns c =
+    let v = times_in c.args.view in
+    let t = to_z-of_z w64 c.args.t c.ranges.t in
+    let e : c.loop-i.i ≡ c.len-end.result = omega (arith, c.requires) in
+    (sym e ∙ skip_end v (to_z w64 (of_z w64 c.args.t)) c.loop-i.i (places c.args.view) _ (view-times c.args.view) c.loop-i.invariant (omega arith) ∙ ap (λ (s : ℤ). c.args.lo + place_of s (drop c.args.lo v)) t, omega arith)

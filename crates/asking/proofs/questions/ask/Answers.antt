@@ -1,5 +1,5 @@
 use native.Mathlib.Omega.{arith}
-use mathlib.Core.Path.{◌≡◌}
+use mathlib.Core.Path.{◌≡◌, ◌∙◌}
 use lib.ListN.{length}
 use Rattle.stores.specs.Stores.{raw_store, merged_store}
 use Rattle.strokes.specs.Lent.{fractal_store, stores_of}
@@ -85,4 +85,4 @@ returns c =
     let h = facts s m lb lf c.requires.fact_1 in
     let e = c.ask_early-first.result in
     let q = c.ask_early-first.ensures in
-    asked-last s m h lb lf a.b e q _ _ _ c.if-failed-ne0.false c.try_bar-tried.ensures c.total_bars-used.ensures c.refused-no.ensures
+    asked-last s m h lb lf a.b e q _ _ _ c.if-failed-ne0.false c.try_bar-tried.ensures c.total_bars-used.ensures (c.number_of.ensures ∙ c.refused-no.ensures)

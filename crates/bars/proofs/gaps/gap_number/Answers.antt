@@ -1,23 +1,23 @@
-use Rattle.bars.specs.Gaps.{gap_number}
+use Rattle.bars.specs.Gaps.{gap_number, side_number}
 use borrow.Author.Rules.{rules}
 use Rattle.bars.proofs.gaps.gap_number.Goals as goal
 
-pub returns-in-NoGap : goal.returns-in-NoGap
+pub returns-in_default : goal.returns-in_default
 unfolding gap_number
-returns-in-NoGap c = search rules
+returns-in_default c = search rules
 
-pub returns-in-Up : goal.returns-in-Up
-unfolding gap_number
-returns-in-Up c = search rules
+pub returns-in-Up-Some : goal.returns-in-Up-Some
+unfolding gap_number side_number
+returns-in-Up-Some c = search rules
 
-pub returns-in-Down : goal.returns-in-Down
-unfolding gap_number
-returns-in-Down c = search rules
+pub returns-in-Up-None : goal.returns-in-Up-None
+unfolding gap_number side_number
+returns-in-Up-None c = search rules
 
-pub returns-in-UpNoRatio : goal.returns-in-UpNoRatio
-unfolding gap_number
-returns-in-UpNoRatio c = search rules
+pub returns-in-Down-Some : goal.returns-in-Down-Some
+unfolding gap_number side_number
+returns-in-Down-Some c = search rules
 
-pub returns-in-DownNoRatio : goal.returns-in-DownNoRatio
-unfolding gap_number
-returns-in-DownNoRatio c = search rules
+pub returns-in-Down-None : goal.returns-in-Down-None
+unfolding gap_number side_number
+returns-in-Down-None c = search rules

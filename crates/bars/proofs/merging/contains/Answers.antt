@@ -1,9 +1,11 @@
-use Rattle.bars.proofs.Including.{contains-first, contains-second}
-use mathlib.Core.Path.{◌∙◌, sym}
+use Rattle.bars.specs.Merging.{contains}
+use borrow.Author.Rules.{rules}
 use Rattle.bars.proofs.merging.contains.Goals as goal
 
 pub returns-then-within : goal.returns-then-within
-returns-then-within c = contains-first _ _ (sym c.within.ensures ∙ c.if-within.true)
+unfolding contains
+returns-then-within c = search rules
 
-pub returns : goal.returns
-returns c = c.within-2.ensures ∙ contains-second _ _ (sym c.within.ensures ∙ c.if-within.false)
+pub returns-else-within : goal.returns-else-within
+unfolding contains
+returns-else-within c = search rules

@@ -1,4 +1,6 @@
-use lib.Ieee.{of_bits}
+use lib.Ieee.{of_bits, le}
+use mathlib.Core.Path.{◌∙◌}
+use Rattle.arith.specs.Sums.{zero_f}
 use Rattle.bars.specs.Questions.{from_zero}
 use Rattle.bars.proofs.Asked.{and_no}
 use Rattle.bars.proofs.MinusZero.{sign_bit, no_nan}
@@ -12,6 +14,6 @@ pub returns-then-x : goal.returns-then-x
 unfolding of_bits
 returns-then-x c = sign_bit c.args.x c.if-x.true c.well_formed.0.1
 
-pub returns : goal.returns
+pub returns-else-x : goal.returns-else-x
 unfolding of_bits from_zero
-returns c = and_no _ _ c.if-x.false
+returns-else-x c = c.if-x.false ∙ and_no (le zero_f c.args.x) _ c.if-x.false

@@ -4,10 +4,10 @@ use Rattle.bars.proofs.Prices.{zero-passes, size_decides}
 use Rattle.bars.proofs.questions.is_price.Goals as goal
 
 pub returns-then-is_plain_zero : goal.returns-then-is_plain_zero
-returns-then-is_plain_zero c = zero-passes c.args.x (sym c.is_plain_zero.ensures ∙ c.if-is_plain_zero.true)
+returns-then-is_plain_zero c = c.if-is_plain_zero.true ∙ zero-passes c.args.x (sym c.is_plain_zero.ensures ∙ c.if-is_plain_zero.true)
 
-pub returns : goal.returns
-returns c =
+pub returns-else-is_plain_zero : goal.returns-else-is_plain_zero
+returns-else-is_plain_zero c =
     c.in_price_range.ensures
     ∙ ap in_price_range c.abs.ensures
     ∙ size_decides c.args.x (sym c.is_plain_zero.ensures ∙ c.if-is_plain_zero.false)

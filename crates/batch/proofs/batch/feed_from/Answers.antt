@@ -1,103 +1,45 @@
 use native.Mathlib.Omega.{arith}
-use Rattle.strokes.specs.Lent.{stores_of, held}
-use Rattle.stores.specs.Lent.{raw_lent}
-use Rattle.from_fresh.proofs.ClearNext.{clear_begins, clear_next}
-use Rattle.batch.proofs.BatchLoop.{onward_start, next-room, next_reached, can_look_on, can_advance, onward_next, fewer-left, same_lengths}
-use Rattle.batch.proofs.BatchSteps.{loop_done}
+use Rattle.from_fresh.proofs.ClearNext.{clear_begins}
+use Rattle.batch.proofs.BatchLoop.{going_start, sums_fit, still_fresh, next_fed, next-refused, all_fed}
+use Rattle.batch.proofs.SameOn.{same_columns, same_on}
 use Rattle.batch.proofs.batch.feed_from.Goals as goal
 
--- ---- what is needed
+pub loop-fed-init : goal.loop-fed-init
+loop-fed-init c = (going_start _ _ _ _ c.none-events.ensures, clear_begins _ _, same_columns _ _ _ _)
 
-pub loop-left-init : goal.loop-left-init
-loop-left-init c =
-    let x = c.args in
-    (onward_start x.stand (held x.rt x.ri x.rp x.ut x.ui x.up x.uc x.ue x.st x.si x.sp x.sc x.se x.fs x.fp) (raw_lent x.bt x.bi x.bp) x.n, clear_begins _ _)
+pub feed_next-requires-clause-from_fresh : goal.feed_next-requires-clause-from_fresh
+feed_next-requires-clause-from_fresh c = still_fresh c.requires c.loop-fed.invariant.0
 
-pub feed_next-a-requires : goal.feed_next-a-requires
-unfolding stores_of
-feed_next-a-requires c =
-    let i = c.loop-left.invariant in
-    record { fact_1 = next_reached c.requires i.0; fact_2 = next-room c.requires i.0 c.loop-left-test.true; fact_3 = i.1.none }
+pub feed_next-requires-clause-clear : goal.feed_next-requires-clause-clear
+feed_next-requires-clause-clear c = c.loop-fed.invariant.1
 
-pub clear_after-clear-requires : goal.clear_after-clear-requires
-unfolding stores_of
-clear_after-clear-requires c =
-    let i = c.loop-left.invariant in
-    can_look_on c.requires i.0 i.1 c.feed_next-a.ensures
+-- ---- the bar is fed
 
-pub advance-r-requires : goal.advance-r-requires
-advance-r-requires c = can_advance c.requires c.loop-left.invariant.0 c.loop-left-test.true (omega arith) c.feed_next-a.ensures
+pub plus-events-requires : goal.plus-events-requires
+plus-events-requires c = sums_fit c.in-Ok.more c.loop-fed.invariant.0 c.loop-fed-test.true c.ranges.n.fits c.in-Ok.ensures.feed
 
-pub loop-left-smaller : goal.loop-left-smaller
-loop-left-smaller c = fewer-left c.requires c.loop-left.invariant.0 c.loop-left-test.true c.feed_next-a.ensures c.advance-r.ensures c.bars_left-left.ensures
+pub loop-fed-preserved : goal.loop-fed-preserved
+loop-fed-preserved c = (
+  next_fed c.requires c.loop-fed.invariant.0 c.loop-fed-test.true c.bar-b.ensures c.in-Ok.more c.in-Ok.ensures.feed c.plus-events.ensures,
+  c.in-Ok.ensures.clear,
+  same_on c.loop-fed.invariant.2 c.in-Ok.ensures.same,
+)
 
-pub loop-left-preserved : goal.loop-left-preserved
-unfolding stores_of
-loop-left-preserved c =
-    let i = c.loop-left.invariant in (
-      onward_next c.requires i.0 c.loop-left-test.true c.feed_next-a.ensures c.advance-r.ensures c.bars_left-left.ensures,
-      clear_next (next_reached c.requires i.0) i.1 c.feed_next-a.ensures c.clear_after-clear.ensures,
-    )
+-- ---- it is refused
 
-pub shape_of-rt : goal.shape_of-rt
-unfolding stores_of
-shape_of-rt c = (same_lengths c.requires c.loop-left.invariant.0).rt
+pub returns-in-Err-clause-fed : goal.returns-in-Err-clause-fed
+returns-in-Err-clause-fed c = next-refused c.requires c.loop-fed.invariant.0 c.loop-fed-test.true c.bar-b.ensures c.in-Err.q c.in-Err.ensures.feed
 
-pub shape_of-ri : goal.shape_of-ri
-unfolding stores_of
-shape_of-ri c = (same_lengths c.requires c.loop-left.invariant.0).ri
+pub returns-in-Err-clause-same : goal.returns-in-Err-clause-same
+returns-in-Err-clause-same c = same_on c.loop-fed.invariant.2 c.in-Err.ensures.same
 
-pub shape_of-rp : goal.shape_of-rp
-unfolding stores_of
-shape_of-rp c = (same_lengths c.requires c.loop-left.invariant.0).rp
+-- ---- none is left
 
-pub shape_of-ut : goal.shape_of-ut
-unfolding stores_of
-shape_of-ut c = (same_lengths c.requires c.loop-left.invariant.0).ut
+pub returns-clause-fed : goal.returns-clause-fed
+returns-clause-fed c =
+    let most = c.loop-fed.auto.fed-end in
+    let least = c.loop-fed-test.false in
+    all_fed c.requires c.loop-fed.invariant.0 (omega arith)
 
-pub shape_of-ui : goal.shape_of-ui
-unfolding stores_of
-shape_of-ui c = (same_lengths c.requires c.loop-left.invariant.0).ui
-
-pub shape_of-up : goal.shape_of-up
-unfolding stores_of
-shape_of-up c = (same_lengths c.requires c.loop-left.invariant.0).up
-
-pub shape_of-uc : goal.shape_of-uc
-unfolding stores_of
-shape_of-uc c = (same_lengths c.requires c.loop-left.invariant.0).uc
-
-pub shape_of-ue : goal.shape_of-ue
-unfolding stores_of
-shape_of-ue c = (same_lengths c.requires c.loop-left.invariant.0).ue
-
-pub shape_of-st : goal.shape_of-st
-unfolding stores_of
-shape_of-st c = (same_lengths c.requires c.loop-left.invariant.0).st
-
-pub shape_of-si : goal.shape_of-si
-unfolding stores_of
-shape_of-si c = (same_lengths c.requires c.loop-left.invariant.0).si
-
-pub shape_of-sp : goal.shape_of-sp
-unfolding stores_of
-shape_of-sp c = (same_lengths c.requires c.loop-left.invariant.0).sp
-
-pub shape_of-sc : goal.shape_of-sc
-unfolding stores_of
-shape_of-sc c = (same_lengths c.requires c.loop-left.invariant.0).sc
-
-pub shape_of-se : goal.shape_of-se
-unfolding stores_of
-shape_of-se c = (same_lengths c.requires c.loop-left.invariant.0).se
-
-pub shape_of-fs : goal.shape_of-fs
-unfolding stores_of
-shape_of-fs c = (same_lengths c.requires c.loop-left.invariant.0).fs
-
-pub shape_of-fp : goal.shape_of-fp
-unfolding stores_of
-shape_of-fp c = (same_lengths c.requires c.loop-left.invariant.0).fp
-
-pub returns : goal.returns
-returns c = loop_done c.requires c.loop-left.invariant.0 c.loop-left-test.false
+pub returns-clause-same : goal.returns-clause-same
+returns-clause-same c = c.loop-fed.invariant.2

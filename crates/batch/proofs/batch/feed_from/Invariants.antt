@@ -1,13 +1,12 @@
-use Rattle.strokes.specs.Lent.{stores_of, fractal_store}
-use Rattle.stores.specs.Stores.{raw_store, merged_store}
+use Rattle.stores.specs.Stores.{raw_bars}
+use Rattle.stores.specs.Columns.{raw_in}
+use Rattle.strokes.specs.Columns.{written_in, SameColumns}
 use Rattle.from_fresh.specs.Code.ClearWindows.{Clear}
-use Rattle.batch.proofs.BatchLoop.{Onward}
+use Rattle.batch.proofs.BatchLoop.{Going}
 use Rattle.batch.proofs.batch.feed_from.Given as goal
 
-abbrev pub invariant-loop-left : goal.invariant-loop-left
-invariant-loop-left l =
-    Onward l.initial.kept (stores_of (raw_store l.initial.rt l.initial.ri l.initial.rp) (merged_store l.initial.ut l.initial.ui l.initial.up l.initial.uc l.initial.ue) (merged_store l.initial.st l.initial.si l.initial.sp l.initial.sc l.initial.se) (fractal_store l.initial.fs l.initial.fp)) (raw_store l.bt l.bi l.bp) l.n l.left l.r l.kept (stores_of (raw_store l.rt l.ri l.rp) (merged_store l.ut l.ui l.up l.uc l.ue) (merged_store l.st l.si l.sp l.sc l.se) (fractal_store l.fs l.fp))
-    × Clear l.kept (stores_of (raw_store l.rt l.ri l.rp) (merged_store l.ut l.ui l.up l.uc l.ue) (merged_store l.st l.si l.sp l.sc l.se) (fractal_store l.fs l.fp)) l.clear
-
-abbrev pub decreases-loop-left : goal.decreases-loop-left
-decreases-loop-left l = l.left
+abbrev pub invariant-loop-fed : goal.invariant-loop-fed
+invariant-loop-fed l =
+    Going l.fn.stand (written_in l.fn.raw l.fn.unfinished l.fn.strokes l.fn.fractals) (raw_bars (raw_in l.bars)) l.fed l.events l.kept (written_in l.raw l.unfinished l.strokes l.fractals)
+    × Clear l.kept (written_in l.raw l.unfinished l.strokes l.fractals) l.clear
+    × SameColumns l.fn.raw l.fn.unfinished l.fn.strokes l.fn.fractals l.raw l.unfinished l.strokes l.fractals

@@ -1,22 +1,38 @@
-use Rattle.check_bi.proofs.ScanWindows.{clear_none}
-use Rattle.czsc_c.proofs.HandedLaws.{fed_handed}
-use Rattle.sound.specs.StandSound.{IsSound}
+use mathlib.Core.Path.{ap, sym, ◌∙◌, subst}
+use Rattle.std.proofs.lemmas.Result.{err_from_is_err_and}
+use Rattle.bars.specs.Refusals.{number}
 use Rattle.strokes.specs.declared.Stand.{Stand}
-use mathlib.Core.Path.{sym, subst}
-use Rattle.strokes.specs.Lent.{held}
+use Rattle.strokes.specs.Columns.{written_in}
+use Rattle.check_bi.proofs.ScanWindows.{clear_none}
+use Rattle.sound.specs.StandSound.{IsSound}
+use Rattle.feed.proofs.FeedLaws.{numbered}
+use Rattle.czsc_c.proofs.HandedLaws.{before_seen, refused-before, passed, fed_then, fed_handed}
 use Rattle.czsc_c.proofs.calls.update_packed.Goals as goal
 
-pub feed_sound-r-requires : goal.feed_sound-r-requires
-feed_sound-r-requires c =
+pub returns-in_err-stand-clause-handed : goal.returns-in_err-stand-clause-handed
+returns-in_err-stand-clause-handed c =
     let a = c.args in
-    let m = held a.rt a.ri a.rp a.ut a.ui a.up a.uc a.ue a.st a.si a.sp a.sc a.se a.fs a.fp in
-    record { fact_1 = subst (λ (z : Stand). IsSound z m) (sym c.unpack-stand.ensures) c.requires.fact_2; fact_2 = clear_none _ }
+    let p = err_from_is_err_and c.from_residual.result c.from_residual.ensures.1 in
+    rw p.1
+    (refused-before a.numbers.now a.counts.now a.events.now (written_in a.raw.now a.unfinished.now a.strokes.now a.fractals.now) a.b (number p.0)
+    (ap number p.2 ∙ before_seen c.seen-r.ensures c.seen-u.ensures c.seen-k.ensures c.seen-f.ensures _ _ _ c.in_err-stand.ensures.failed) (numbered p.0))
+
+pub feed_sound-fed-requires : goal.feed_sound-fed-requires
+feed_sound-fed-requires c =
+    let a = c.args in
+    let m = written_in a.raw.now a.unfinished.now a.strokes.now a.fractals.now in
+    let z = sym (before_seen c.seen-r.ensures c.seen-u.ensures c.seen-k.ensures c.seen-f.ensures _ _ _ c.in_ok-stand.ensures.failed) in
+    record { sound = subst (λ (x : Stand). IsSound x m) (sym c.in_ok-stand.ensures.stand) (passed a.numbers.now a.counts.now a.events.now m z).1; clear = clear_none _ }
 
 pub hand_over-requires : goal.hand_over-requires
-hand_over-requires c = c.requires.fact_1
-
-pub returns : goal.returns
-returns c =
+hand_over-requires c =
     let a = c.args in
-    let m = held a.rt a.ri a.rp a.ut a.ui a.up a.uc a.ue a.st a.si a.sp a.sc a.se a.fs a.fp in
-    let u = c.unpack-stand in let f = c.feed_sound-r in fed_handed a.numbers.now a.counts.now a.events.now m u.result f.result u.ensures f.ensures c.hand_over.ensures
+    (passed a.numbers.now a.counts.now a.events.now (written_in a.raw.now a.unfinished.now a.strokes.now a.fractals.now)
+    (sym (before_seen c.seen-r.ensures c.seen-u.ensures c.seen-k.ensures c.seen-f.ensures _ _ _ c.in_ok-stand.ensures.failed))).0
+
+pub returns-clause-handed : goal.returns-clause-handed
+returns-clause-handed c =
+    let a = c.args in
+    let m = written_in a.raw.now a.unfinished.now a.strokes.now a.fractals.now in
+    fed_then a.numbers.now a.counts.now a.events.now m (sym (before_seen c.seen-r.ensures c.seen-u.ensures c.seen-k.ensures c.seen-f.ensures _ _ _ c.in_ok-stand.ensures.failed))
+    (fed_handed a.numbers.now a.counts.now a.events.now m _ _ c.feed_sound-fed.result c.in_ok-stand.ensures.stand c.feed_sound-fed.ensures.feed c.hand_over.ensures)

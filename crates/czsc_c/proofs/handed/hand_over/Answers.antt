@@ -1,8 +1,9 @@
 use mathlib.Core.Path.{refl}
+use Rattle.czsc_c.proofs.HandedLaws.{handed_yes, handed_no}
 use Rattle.czsc_c.proofs.handed.hand_over.Goals as goal
 
-pub returns-then-failed-ne0 : goal.returns-then-failed-ne0
-returns-then-failed-ne0 c = record { number = refl; refused = λ h. (refl, refl, refl); answered = λ z. absurd (c.if-failed-ne0.true z) }
+pub returns-in-Ok : goal.returns-in-Ok
+returns-in-Ok c = handed_yes _ _ _ _ _ _ _ c.args.r c.in-Ok.e c.in-Ok.is c.pack.ensures.0 c.pack.ensures.1 refl
 
-pub returns : goal.returns
-returns c = let k = c.pack.ensures in record { number = refl; refused = λ h. absurd (h c.if-failed-ne0.false); answered = λ z. (k.0, k.1, c.put_events.ensures) }
+pub returns-in-Err : goal.returns-in-Err
+returns-in-Err c = handed_no _ _ _ _ c.args.r c.in-Err.q c.in-Err.is

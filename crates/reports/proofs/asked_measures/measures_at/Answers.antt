@@ -1,24 +1,18 @@
 use Rattle.arith.proofs.ExactDivisor.{exact_divisor}
-use Rattle.reports.proofs.NamedAnswers.{stroke-none, stroke-kept, stroke-after, measures_unsound, measures_missing, measures_given}
-use Rattle.reports.proofs.StrokeColumns.{rows-small, lends, can_measure, shown_by}
-use Rattle.question4.proofs.Question4Passed.{is-sound as sound-of}
 use Rattle.strokes.specs.Lent.{stores_of}
-use mathlib.Core.Path.{refl, sym, ◌∙◌}
+use Rattle.reports.proofs.NamedAnswers.{measures_refused, measures_given}
+use Rattle.reports.proofs.StrokeColumns.{lends-named, can_measure, shown_by}
 use Rattle.reports.proofs.asked_measures.measures_at.Goals as goal
 
-pub returns-then-not-is_sound : goal.returns-then-not-is_sound
-returns-then-not-is_sound c = (measures_unsound _ _ _ _ c.refused.ensures (sym c.is_sound.ensures ∙ c.if-not-is_sound.true), exact_divisor)
-
-pub returns-then-kept-place : goal.returns-then-kept-place
-returns-then-kept-place c = (measures_missing _ _ _ _ c.refused-then-kept-place.ensures (sym c.is_sound.ensures ∙ c.if-not-is_sound.false) (stroke-none _ _ _ (sym c.is_sound.ensures ∙ c.if-not-is_sound.false) c.kept-kept.ensures.1 c.kept-kept.ensures.2 (stroke-after _ _ _ c.kept-kept.ensures.0 c.if-kept-place.true)), exact_divisor)
-
-pub rows_of-rows-requires : goal.rows_of-rows-requires
-rows_of-rows-requires c = let asked = rows-small _ _ _ (sound-of _ _ (sym c.is_sound.ensures ∙ c.if-not-is_sound.false)) (stroke-kept _ _ _ c.kept-kept.ensures.0 c.if-kept-place.false) c.kept-kept.ensures.1 c.kept-kept.ensures.2 in record { fact_1 = asked.0; fact_2 = asked.1 }
+pub returns-in_err-rows : goal.returns-in_err-rows
+returns-in_err-rows c = let k = c.in_err-rows.ensures in (measures_refused _ _ _ _ _ k.bars k.fractals c.from_residual.ensures.1 k.value, exact_divisor)
 
 pub measures_in-measures-requires : goal.measures_in-measures-requires
 unfolding stores_of
-measures_in-measures-requires c = can_measure _ _ _ _ (lends _ _ _ _ (sound-of _ _ (sym c.is_sound.ensures ∙ c.if-not-is_sound.false)) (stroke-kept _ _ _ c.kept-kept.ensures.0 c.if-kept-place.false) c.rows_of-rows.ensures.0 c.kept-kept.ensures.1 c.kept-kept.ensures.2)
+measures_in-measures-requires c = let k = c.in_ok-rows.ensures in can_measure _ _ _ _ (lends-named _ _ _ _ k.value k.bars k.fractals).1
 
 pub returns : goal.returns
 unfolding stores_of
-returns c = let l = lends _ _ _ _ (sound-of _ _ (sym c.is_sound.ensures ∙ c.if-not-is_sound.false)) (stroke-kept _ _ _ c.kept-kept.ensures.0 c.if-kept-place.false) c.rows_of-rows.ensures.0 c.kept-kept.ensures.1 c.kept-kept.ensures.2 in (measures_given _ _ _ _ _ refl (c.measures_in-measures.ensures _ _ (shown_by _ _ _ _ l)) (sym c.is_sound.ensures ∙ c.if-not-is_sound.false) l.is, exact_divisor)
+returns c = let k = c.in_ok-rows.ensures in
+    let l = lends-named _ _ _ _ k.value k.bars k.fractals in
+    (measures_given _ _ _ _ _ (c.measures_in-measures.ensures _ _ (shown_by _ _ _ _ l.1)) l.0 l.1.is, exact_divisor)

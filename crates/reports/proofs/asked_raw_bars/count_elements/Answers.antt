@@ -1,15 +1,12 @@
-use Prim.Native.Nat.{◌<◌}
+use lib.ListN.{get_or, length-take}
+use mathlib.Core.List.{[]}
 use native.Mathlib.Omega.{arith}
-use lib.ListN.{length}
 use Rattle.reports.proofs.InnerRawLaws.{count_turn, count-end}
-use borrow.Author.Rules.{rules}
 use Rattle.reports.proofs.asked_raw_bars.count_elements.Goals as goal
 
-pub loop-i-init : goal.loop-i-init
-loop-i-init c = (search rules, search rules, omega arith)
-
 pub loop-i-preserved : goal.loop-i-preserved
-loop-i-preserved c = let a = c.args in let l = c.loop-i in let h : l.i < length a.cs.now = search rules in (search rules, search rules, count_turn a.cs.now a.es.now l.i c.requires.0 h l.sum _ _ c.in_use-m.ensures.0 l.invariant.2)
+loop-i-preserved c = let a = c.args in let l = c.loop-i in let h = c.loop-i-test.true in let m = c.min-sum.ensures in let t = c.told-es l.i (let q = c.requires.0 in omega arith) in let v = l.invariant.0 in
+    (omega (arith, m), count_turn a.cs.now a.es.now l.i c.requires.0 h l.sum _ _ (omega (arith, m, t, length-take (get_or a.cs.now l.i 0) (get_or a.es.now l.i []))) l.invariant.1)
 
 pub returns : goal.returns
-returns c = let a = c.args in let l = c.loop-i in count-end a.cs.now a.es.now l.i _ _ c.requires.0 (search rules) l.invariant.2
+returns c = let a = c.args in let l = c.loop-i in count-end a.cs.now a.es.now l.i _ _ c.requires.0 c.loop-i-test.false l.invariant.1

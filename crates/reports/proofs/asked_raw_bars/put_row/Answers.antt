@@ -1,31 +1,40 @@
-use Rattle.reports.proofs.InnerRawLaws.{put_room, set_lengths}
-use Prim.Native.Nat.{◌<◌, ◌+◌, min}
-use mathlib.Core.Path.{refl, ◌∙◌}
+use Prim.Native.Nat.{ℕ, ◌+◌}
 use native.Mathlib.Omega.{arith}
-use lib.ListN.{length, take, length-take}
-use Rattle.stores.specs.Stores.{raw_store}
-use Rattle.reports.specs.Code.InnerRawSteps.{put_named, filling}
+use mathlib.Core.Path.{◌≡◌, ap, ◌∙◌}
+use mathlib.Core.List.{foldl}
+use lib.ListN.{take, length-take}
+use Rattle.stores.specs.Columns.{raw_in, raw_of}
+use Rattle.reports.specs.Code.InnerRawSteps.{filling, put_named}
 use Rattle.reports.proofs.MeasureLaws.{element_named, element_turn, element_end}
-use borrow.Author.Rules.{rules}
+use Rattle.reports.proofs.InnerRawLaws.{same_none, same_next, room_same}
 use Rattle.reports.proofs.asked_raw_bars.put_row.Goals as goal
 
 pub loop-j-init : goal.loop-j-init
-loop-j-init c = (search rules, search rules, (refl, refl, refl), refl)
+loop-j-init c = (same_none _, let a = c.args in let e : a.at + 0 ≡ a.at = omega arith in ap (λ (k : ℕ). foldl (put_named (raw_in a.raw) a.n) (filling (raw_of a.out.now) k) (take a.count a.row.now)) e)
 
 pub put_named-requires : goal.put_named-requires
 put_named-requires c = let a = c.args in
     let l = c.loop-j in
-    let h : l.j < min a.count (length a.row.now) = search rules in
-    let x = c.requires.fact_3 in
-    let v = l.invariant in
-    let xt = x.times in
-    let xi = x.ids in
-    let xp = x.prices in
-    let t = length-take a.count a.row.now in
-    record { fact_1 = c.requires.fact_1; fact_2 = omega arith; fact_3 = element_named a.row.now a.count l.j h (take a.n a.rt.now) c.requires.fact_2; fact_4 = put_room (raw_store a.ot.now a.oi.now a.op.now) l.ot l.oi l.op a.at l.k l.j (take a.count a.row.now) x v.2.0 v.2.1 v.2.2 v.1 (omega arith) }
+    let h = c.loop-j-test.true in
+    let m = c.min-m.ensures in
+    record {
+      fact_1 = c.requires.fact_1;
+      fact_2 = omega (arith, m);
+      fact_3 = element_named a.row.now a.count l.j (omega (arith, m)) (take a.n a.raw.times.now) c.requires.fact_2;
+      fact_4 = room_same _ _ _ _ l.invariant.0 c.requires.fact_3 (omega (arith, m, length-take a.count a.row.now));
+    }
 
 pub loop-j-preserved : goal.loop-j-preserved
-loop-j-preserved c = let a = c.args in let l = c.loop-j in let h : l.j < min a.count (length a.row.now) = search rules in let v = l.invariant in let e = c.put_named.ensures in let g = set_lengths _ _ _ _ _ _ e in let k = v.1 in (omega arith, omega arith, (g.0 ∙ v.2.0, g.1 ∙ v.2.1, g.2 ∙ v.2.2), element_turn a.row.now a.count l.j h (put_named (raw_store a.rt.now a.ri.now a.rp.now) a.n) (filling l.ot l.oi l.op l.k) _ _ (λ i. record { columns = e i; next = l.k + 1 }) v.3)
+loop-j-preserved c = let a = c.args in
+    let l = c.loop-j in
+    let h = c.loop-j-test.true in
+    let m = c.min-m.ensures in
+    (same_next _ _ _ l.invariant.0 c.put_named.ensures.same, element_turn a.row.now a.count l.j (omega (arith, m)) (put_named (raw_in a.raw) a.n) (filling (raw_of l.out) (a.at + l.j)) _ _ (let q : a.at + (l.j + 1) ≡ a.at + l.j + 1 = omega arith in λ i. record { columns = c.put_named.ensures.put i; next = q i }) l.invariant.1)
 
 pub returns : goal.returns
-returns c = let a = c.args in let l = c.loop-j in element_end (put_named (raw_store a.rt.now a.ri.now a.rp.now) a.n) a.row.now a.count l.j _ _ (search rules) l.invariant.3
+returns c = let a = c.args in let l = c.loop-j in
+    let m = c.min-m.ensures in
+    let h = c.loop-j-test.false in
+    let g = l.auto.j-end in
+    let q : a.at + c.min-m.result ≡ a.at + l.j = omega arith in
+    record { put = ap (filling (raw_of l.out)) q ∙ element_end (put_named (raw_in a.raw) a.n) a.row.now a.count l.j _ _ (omega (arith, m)) l.invariant.1; same = l.invariant.0 }

@@ -1,12 +1,8 @@
-use Prim.Native.Nat.{◌≤◌, ◌-◌, min}
 use mathlib.Core.Path.{◌≡◌}
 use mathlib.Core.List.{foldl}
-use lib.ListN.{length, take, drop}
+use lib.ListN.{take, drop}
 use Rattle.reports.specs.Code.ElementPrices.{slope_at}
 use Rattle.reports.proofs.measures.slope_row.Given as goal
 
 abbrev pub invariant-loop-j : goal.invariant-loop-j
-invariant-loop-j l = (l.j ≤ min l.count (length l.row)) × (foldl (slope_at l.rt l.rp) l.sums (drop l.j (take l.count l.row)) ≡ foldl (slope_at l.rt l.rp) l.initial.sums (take l.count l.row))
-
-abbrev pub decreases-loop-j : goal.decreases-loop-j
-decreases-loop-j l = min l.count (length l.row) - l.j
+invariant-loop-j l = (foldl (slope_at l.rt l.rp) l.sums (drop l.j (take l.count l.row)) ≡ foldl (slope_at l.rt l.rp) l.initial.sums (take l.count l.row))

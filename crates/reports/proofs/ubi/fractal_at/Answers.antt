@@ -3,4 +3,4 @@ use Rattle.reports.proofs.ubi.fractal_at.Goals as goal
 
 pub returns : goal.returns
 unfolding three_bars
-returns c = λ i. three_bars c.args.mark (c.read_bar-left.ensures i) (c.read_bar-mid.ensures i) (c.read_bar-right.ensures i)
+returns c = λ i. three_bars c.args.mark (c.bar-left.ensures i) (c.bar-mid.ensures i) (c.bar-right.ensures i)

@@ -1,13 +1,13 @@
-use mathlib.Core.Path.{sym, ◌∙◌}
-use Rattle.reports.proofs.UbiFacts.{ubi_no, ubi_yes}
 use Rattle.question4.proofs.Question4Passed.{is-sound}
+use Rattle.reports.proofs.FirstLaws.{passed}
+use Rattle.reports.proofs.UbiFacts.{ubi_no, ubi_yes}
 use Rattle.reports.proofs.ubi.get_ubi.Goals as goal
 
-pub returns-then-not-is_sound : goal.returns-then-not-is_sound
-returns-then-not-is_sound c = ubi_no _ _ _ (sym c.is_sound.ensures ∙ c.if-not-is_sound.true) c.refused.ensures
+pub returns-in_err-ask_sound : goal.returns-in_err-ask_sound
+returns-in_err-ask_sound c = ubi_no _ _ _ _ c.from_residual.ensures.1 c.in_err-ask_sound.ensures.value
 
 pub summary-requires : goal.summary-requires
-summary-requires c = is-sound _ _ (sym c.is_sound.ensures ∙ c.if-not-is_sound.false)
+summary-requires c = is-sound _ _ (passed _ _ _ c.in_ok-ask_sound.ensures.value)
 
 pub returns : goal.returns
-returns c = ubi_yes _ _ _ (sym c.is_sound.ensures ∙ c.if-not-is_sound.false) c.summary.ensures
+returns c = ubi_yes _ _ _ (passed _ _ _ c.in_ok-ask_sound.ensures.value) c.summary.ensures

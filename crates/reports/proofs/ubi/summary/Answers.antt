@@ -1,15 +1,14 @@
 use mathlib.Core.Path.{sym, ◌∙◌}
 use lib.Seq.{length-take-le}
 use borrow.Author.Tests.{not-true, not-false}
-use Rattle.check_bi.proofs.ScanWindows.{clear_none}
 use Rattle.strokes.specs.Lent.{stores_of}
 use Rattle.reports.proofs.ListFacts.{not-zero, last-asked}
-use Rattle.reports.proofs.UbiFacts.{rising-here, counts_fit_lem, elements_fit, rows_alike, scan_fits, no_strokes, no_bars, no_fxs, first-room, summed_is}
+use Rattle.reports.proofs.UbiFacts.{rising-here, counts_fit_lem, elements_fit, rows_alike, times_fit, prices_fit, view_few, no_strokes, no_bars, no_fxs, first-room, summed_is}
 use Rattle.reports.proofs.ubi.summary.Goals as goal
 
 pub returns-then-k-eq0 : goal.returns-then-k-eq0
 unfolding stores_of
-returns-then-k-eq0 c = let k = c.kept-k.ensures in no_strokes _ _ k.1 k.2 c.requires _ (sym k.0 ∙ c.if-k-eq0.true) c.refused.ensures
+returns-then-k-eq0 c = let k = c.kept-k.ensures in no_strokes _ _ k.1 k.2 c.requires (sym k.0 ∙ c.if-k-eq0.true)
 
 pub slice_bounds-see_rows-end : goal.slice_bounds-see_rows-end
 unfolding stores_of
@@ -26,16 +25,19 @@ see_rows-e-requires c = let k = c.kept-k.ensures in
 
 pub returns-then-not-e : goal.returns-then-not-e
 unfolding stores_of
-returns-then-not-e c = let k = c.kept-k.ensures in no_bars _ _ k.1 k.2 c.requires _ _ _ c.none_seen-none.ensures c.see_rows-e.ensures (not-true _ c.if-not-e.true) c.refused-then-not-e.ensures
+returns-then-not-e c = let k = c.kept-k.ensures in no_bars _ _ k.1 k.2 c.requires _ _ c.none_seen-none.ensures c.see_rows-e.ensures (not-true _ c.if-not-e.true)
 
-pub scan_from-s-requires : goal.scan_from-s-requires
+pub slice_bounds-view-end : goal.slice_bounds-view-end
 unfolding stores_of
-scan_from-s-requires c = let k = c.kept-k.ensures in
-    record { fact_1 = scan_fits _ _ k.1 k.2 c.requires; fact_2 = clear_none _ }
+slice_bounds-view-end c = let k = c.kept-k.ensures in sym (length-take-le _ _ (times_fit _ _ k.1 k.2 c.requires))
 
-pub returns-then-count-eq0 : goal.returns-then-count-eq0
+pub slice_bounds-view-end-2 : goal.slice_bounds-view-end-2
 unfolding stores_of
-returns-then-count-eq0 c = let k = c.kept-k.ensures in no_fxs _ _ k.1 k.2 c.requires _ _ c.scan_from-s.ensures.value c.if-count-eq0.true c.refused-then-count-eq0.ensures
+slice_bounds-view-end-2 c = let k = c.kept-k.ensures in sym (length-take-le _ _ (prices_fit _ _ k.1 k.2 c.requires))
+
+pub returns-in_default : goal.returns-in_default
+unfolding stores_of
+returns-in_default c = let k = c.kept-k.ensures in no_fxs _ _ k.1 k.2 c.requires _ c.scan.ensures.value c.in_default.is
 
 pub last_stroke-b-requires : goal.last_stroke-b-requires
 unfolding stores_of
@@ -44,8 +46,17 @@ last_stroke-b-requires c = let k = c.kept-k.ensures in
 
 pub fractal_at-first-requires : goal.fractal_at-first-requires
 unfolding stores_of
-fractal_at-first-requires c = let k = c.kept-k.ensures in first-room _ _ k.1 k.2 c.requires _ c.scan_from-s.ensures.value c.if-count-eq0.false
+fractal_at-first-requires c = let k = c.kept-k.ensures in rw c.bars.ensures (first-room _ _ k.1 k.2 c.requires _ (sym c.in-Some.is ∙ c.scan.ensures.value))
 
 pub returns : goal.returns
 unfolding stores_of
-returns c = let k = c.kept-k.ensures in summed_is _ _ k.1 k.2 c.requires _ _ _ _ _ _ _ (not-zero _ _ k.0 c.if-k-eq0.false) c.none_seen-none.ensures c.see_rows-e.ensures (not-false _ c.if-not-e.false) c.scan_from-s.ensures.value c.if-count-eq0.false c.last_stroke-b.ensures c.fractal_at-first.ensures c.turned-direction.ensures c.summed.ensures
+returns c = let k = c.kept-k.ensures in summed_is _ _ k.1 k.2 c.requires _ _ _ _ _ _ _ (not-zero _ _ k.0 c.if-k-eq0.false) c.none_seen-none.ensures c.see_rows-e.ensures (not-false _ c.if-not-e.false) (sym c.in-Some.is ∙ c.scan.ensures.value) c.last_stroke-b.ensures (rw c.bars.ensures at c.fractal_at-first.ensures) c.turned-direction.ensures c.summed-u.ensures
+
+pub invariant_of-view-clause-even : goal.invariant_of-view-clause-even
+unfolding stores_of
+invariant_of-view-clause-even c = let k = c.kept-k.ensures in
+    length-take-le _ _ (prices_fit _ _ k.1 k.2 c.requires) ∙ sym (length-take-le _ _ (times_fit _ _ k.1 k.2 c.requires))
+
+pub invariant_of-view-clause-few : goal.invariant_of-view-clause-few
+unfolding stores_of
+invariant_of-view-clause-few c = let k = c.kept-k.ensures in view_few _ _ k.1 k.2 c.requires

@@ -1,21 +1,41 @@
-use Prim.Native.Nat.{◌<◌, min}
+use lib.IntN.{ℤ, pos}
+use lib.ListN.{get_or}
 use native.Mathlib.Omega.{arith}
-use mathlib.Core.Path.{refl}
-use lib.ListN.{length, get_or}
-use lib.IntN.{pos}
-use Rattle.stores.proofs.Searching.{place-le}
-use Rattle.sound.proofs.SoundNames.{row-turn, row-end}
+use mathlib.Core.Bool.{true}
+use mathlib.Core.Path.{◌∙◌, ap}
+use mir.Syntax.{w64}
+use mir.Val.{to_z, of_z}
+use mir.ValLaws.{to_z-of_z}
 use borrow.Author.Rules.{rules}
+use Rattle.stores.proofs.Searching.{place-le}
+use Rattle.sound.specs.Code.SoundStand.{is_time, at_place}
+use Rattle.stores.specs.Code.StoreRows.{place_of}
+use Rattle.sound.proofs.SoundScans.{every_on, every_stop, every-end}
+use Rattle.sound.proofs.SoundNames.{named_at}
 use Rattle.sound.proofs.soundness.each_named.Goals as goal
 
-pub loop-j-init : goal.loop-j-init
-loop-j-init c = (search rules, refl)
+pub returns-then-not-is_at : goal.returns-then-not-is_at
+returns-then-not-is_at c =
+    let a = c.args in
+    let l = c.loop-t in
+    let t = get_or a.elements.now l.t-index (pos 0) in
+    let back = to_z-of_z w64 t (record { sfits = search rules }) in
+    let x = named_at a.ts.now t c.seek-p.result _ c.requires.rise (c.seek-p.ensures ∙ ap (λ (u : ℤ). place_of u a.ts.now) back) (c.is_at.ensures ∙ ap (at_place a.ts.now c.seek-p.result) back) in
+    every_stop (is_time a.ts.now) a.elements.now l.t-index (pos 0) _ _ c.loop-t-test.true x l.invariant c.if-not-is_at.true
 
 pub overflow_add-next : goal.overflow_add-next
-overflow_add-next c = let h = c.requires.fact_2 in omega (arith, h, c.seek-p.ensures, place-le (get_or c.args.row.now c.loop-j.j (pos 0)) c.args.ts.now)
+overflow_add-next c =
+    let h = c.requires.small in
+    omega (arith, h, c.seek-p.ensures, place-le (to_z w64 (of_z w64 (get_or c.args.elements.now c.loop-t.t-index (pos 0)))) c.args.ts.now)
 
-pub loop-j-preserved : goal.loop-j-preserved
-loop-j-preserved c = let a = c.args in let l = c.loop-j in let s = c.seek-p in let h : l.j < min a.n (length a.row.now) = search rules in (search rules, row-turn a.ts.now a.row.now a.n l.j c.requires.fact_3 h s.result l.ok _ _ _ s.ensures c.is_at.ensures c.both-ok.ensures l.invariant.1)
+pub loop-t-preserved : goal.loop-t-preserved
+loop-t-preserved c =
+    let a = c.args in
+    let l = c.loop-t in
+    let t = get_or a.elements.now l.t-index (pos 0) in
+    let back = to_z-of_z w64 t (record { sfits = search rules }) in
+    let x = named_at a.ts.now t c.seek-p.result _ c.requires.rise (c.seek-p.ensures ∙ ap (λ (u : ℤ). place_of u a.ts.now) back) (c.is_at.ensures ∙ ap (at_place a.ts.now c.seek-p.result) back) in
+    every_on (is_time a.ts.now) a.elements.now l.t-index (pos 0) _ _ c.loop-t-test.true x l.invariant c.if-not-is_at.false
 
 pub returns : goal.returns
-returns c = let a = c.args in let l = c.loop-j in row-end a.ts.now a.row.now a.n l.j _ _ (search rules) l.invariant.1
+returns c = let l = c.loop-t in every-end (is_time c.args.ts.now) c.args.elements.now l.t-index true _ c.loop-t-test.false l.invariant

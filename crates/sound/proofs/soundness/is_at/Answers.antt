@@ -1,12 +1,15 @@
-use Rattle.sound.specs.Code.SoundStand.{at_place}
+use lib.IntN.{pos}
+use lib.ListN.{get_or}
+use borrow.Author.Rules.{rules}
 use borrow.Author.Tests.{lt-ltb, le-ltb}
-use lib.ListN.{length}
+use Rattle.sound.specs.Code.SoundStand.{at_place}
+use Rattle.sound.proofs.SoundNames.{same_bits}
 use Rattle.sound.proofs.soundness.is_at.Goals as goal
 
 pub returns-then-p-ts : goal.returns-then-p-ts
 unfolding at_place
-returns-then-p-ts c = let a = c.args in rw (lt-ltb a.p (length a.ts.now) c.if-p-ts.true) c.is_same.ensures
+returns-then-p-ts c = let a = c.args in rw (lt-ltb a.p _ c.if-p-ts.true) (same_bits (get_or a.ts.now a.p (pos 0)) a.t (record { sfits = search rules }) c.ranges.t)
 
-pub returns : goal.returns
+pub returns-else-p-ts : goal.returns-else-p-ts
 unfolding at_place
-returns c = rw (le-ltb _ _ c.if-p-ts.false)
+returns-else-p-ts c = rw (le-ltb _ _ c.if-p-ts.false)

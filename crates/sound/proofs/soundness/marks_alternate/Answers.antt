@@ -1,15 +1,18 @@
-use Rattle.sound.proofs.SoundScans.{alternating-few, alternating-start, alternating-turn, alternating-end}
 use borrow.Author.Rules.{rules}
+use mathlib.Core.Path.{refl}
+use Rattle.sound.proofs.SoundScans.{alternating-few, alternating-start, alternating-turn, alternating-end, unlike}
 use Rattle.sound.proofs.soundness.marks_alternate.Goals as goal
 
-pub returns-then-n-lt2 : goal.returns-then-n-lt2
-returns-then-n-lt2 c = alternating-few c.args.fp.now (search rules)
+pub returns-in_default : goal.returns-in_default
+returns-in_default c = alternating-few c.args.fp.now (search rules)
 
-pub loop-i-init : goal.loop-i-init
-loop-i-init c = (search rules, alternating-start c.args.fp.now _ (search rules) c.top_at-top.ensures)
+pub loop-p-init : goal.loop-p-init
+loop-p-init c = alternating-start c.args.fp.now _ _ _ c.is_top_row-top.ensures c.in-Some.ensures.cases.0
 
-pub loop-i-preserved : goal.loop-i-preserved
-loop-i-preserved c = let l = c.loop-i in (search rules, alternating-turn c.args.fp.now l.i l.top _ l.ok _ _ _ (search rules) c.top_at-next.ensures c.differs.ensures c.both-ok.ensures l.invariant.1)
+pub loop-p-preserved : goal.loop-p-preserved
+loop-p-preserved c =
+    let l = c.loop-p in
+    alternating-turn c.in-Some.rest.now l.p-index l.top _ l.ok _ _ _ c.loop-p-test.true c.is_top_row-next.ensures (unlike l.top c.is_top_row-next.result) refl l.invariant
 
 pub returns : goal.returns
-returns c = let l = c.loop-i in alternating-end c.args.fp.now l.i l.top l.ok _ (search rules) l.invariant.1
+returns c = let l = c.loop-p in alternating-end c.in-Some.rest.now l.p-index l.top l.ok _ (search rules) l.invariant

@@ -3,4 +3,4 @@ use Rattle.sound.proofs.soundness.merged_row.Goals as goal
 
 pub returns : goal.returns
 unfolding merged_row_by
-returns c = c.bar_passes.ensures
+returns g c = c.bar_passes.ensures

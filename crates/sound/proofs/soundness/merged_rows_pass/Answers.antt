@@ -1,10 +1,14 @@
+use Rattle.std.proofs.Common.{rules, tests}
+use mathlib.Core.Bool.{true, false}
+use mathlib.Core.Path.{◌∙◌}
 use Rattle.sound.specs.Code.SoundStand.{merged_row_by, merged_row}
-use Rattle.sound.proofs.SoundRows.{merged_above, merged-any}
 use Rattle.sound.proofs.SoundScans.{above_all, any-all}
+use Rattle.sound.proofs.SoundRows.{merged_above, merged-any}
 use Rattle.sound.proofs.soundness.merged_rows_pass.Goals as goal
 
-pub returns-then-merged_rows : goal.returns-then-merged_rows
-returns-then-merged_rows c = above_all merged_row_by merged_row merged_above merged-any c.args.ps.now _ c.merged_rows.ensures c.if-merged_rows.true
+pub returns-then-all_pass : goal.returns-then-all_pass
+returns-then-all_pass c =
+    c.if-all_pass.true ∙ above_all merged_row_by merged_row merged_above merged-any c.args.ps.now _ (c.all_pass.ensures (merged_row_by false) (λ x r q. search (rules, tests))) c.if-all_pass.true
 
-pub returns : goal.returns
-returns c = any-all merged_row_by merged_row merged_above merged-any c.args.ps.now _ c.merged_rows-2.ensures
+pub returns-else-all_pass : goal.returns-else-all_pass
+returns-else-all_pass c = any-all merged_row_by merged_row merged_above merged-any c.args.ps.now _ (c.all_pass-else-all_pass.ensures (merged_row_by true) (λ x r q. search (rules, tests)))

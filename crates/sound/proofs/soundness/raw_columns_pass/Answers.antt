@@ -1,11 +1,11 @@
-use Rattle.sound.specs.Code.SoundStand.{raw_columns}
 use mathlib.Core.Path.{◌∙◌, sym}
+use Rattle.sound.specs.Code.SoundStand.{raw_columns}
 use Rattle.sound.proofs.soundness.raw_columns_pass.Goals as goal
 
-pub returns-then-not-times_pass : goal.returns-then-not-times_pass
+pub returns-then-times_pass : goal.returns-then-times_pass
 unfolding raw_columns
-returns-then-not-times_pass c = rw (sym c.times_pass.ensures ∙ c.if-not-times_pass.true)
+returns-then-times_pass c = rw (sym c.times_pass.ensures ∙ c.if-times_pass.true) c.raw_rows_pass.ensures
 
-pub returns : goal.returns
+pub returns-else-times_pass : goal.returns-else-times_pass
 unfolding raw_columns
-returns c = rw (sym c.times_pass.ensures ∙ c.if-not-times_pass.false) c.raw_rows_pass.ensures
+returns-else-times_pass c = c.if-times_pass.false ∙ rw (sym c.times_pass.ensures ∙ c.if-times_pass.false)

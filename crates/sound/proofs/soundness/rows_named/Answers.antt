@@ -1,19 +1,12 @@
 use mathlib.Core.Path.{refl}
-use Rattle.sound.proofs.SoundNames.{rows-turn, rows_end}
-use borrow.Author.Rules.{rules}
+use Rattle.sound.proofs.SoundNames.{rows_on, rows_stop, rows_end}
 use Rattle.sound.proofs.soundness.rows_named.Goals as goal
 
-pub loop-i-init : goal.loop-i-init
-loop-i-init c = (search rules, refl)
+pub returns-in_err-next : goal.returns-in_err-next
+returns-in_err-next c = let a = c.args in let l = c.loop-i in rw c.from_residual.ensures (rows_stop a.ts.now a.cs.now a.es.now l.i _ _ c.loop-i-test.true c.requires.sizes.0 c.in_err-next.ensures l.invariant refl)
 
 pub loop-i-preserved : goal.loop-i-preserved
-loop-i-preserved c =
-    let a = c.args in
-    let l = c.loop-i in
-    (search rules, rows-turn a.ts.now a.cs.now a.es.now l.i l.ok _ _ _ (search rules) (search rules) c.row_named-s.ensures c.both-ok.ensures l.invariant.1)
+loop-i-preserved c = let a = c.args in let l = c.loop-i in rows_on a.ts.now a.cs.now a.es.now l.i _ _ c.loop-i-test.true c.requires.sizes.0 c.in_ok-next.ensures l.invariant refl
 
 pub returns : goal.returns
-returns c =
-    let a = c.args in
-    let l = c.loop-i in
-    rows_end a.ts.now a.cs.now a.es.now l.i _ _ (search rules) l.invariant.1
+returns c = let a = c.args in let l = c.loop-i in rows_end a.ts.now a.cs.now a.es.now l.i _ c.loop-i-test.false l.invariant

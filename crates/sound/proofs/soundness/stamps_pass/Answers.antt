@@ -1,23 +1,10 @@
-use mathlib.Core.Path.{refl}
-use mathlib.Core.Bool.{true}
-use mathlib.Core.List.{[]}
-use Rattle.sound.proofs.SoundScans.{every_on, every_stop, every-end}
+use Rattle.std.proofs.Common.{rules, tests}
+use mathlib.Core.Path.{◌∙◌}
+use Rattle.std.proofs.lemmas.Iterator.{YieldsList-from_slice}
+use Rattle.std.proofs.lemmas.Iterator.Search.{all_from_yields_List}
 use Rattle.sound.specs.Code.SoundStand.{stamps_pass}
-use borrow.Author.Rules.{rules}
+use Rattle.sound.proofs.SoundScans.{all_every}
 use Rattle.sound.proofs.soundness.stamps_pass.Goals as goal
 
-pub loop-i-init : goal.loop-i-init
-loop-i-init c = (search rules, refl)
-
-pub returns-then-not-stamps_in_time : goal.returns-then-not-stamps_in_time
-returns-then-not-stamps_in_time c =
-    let l = c.loop-i in
-    every_stop stamps_pass c.args.fs.now l.i [] _ _ (search rules) c.stamps_in_time.ensures l.invariant.1 c.if-not-stamps_in_time.true
-
-pub loop-i-preserved : goal.loop-i-preserved
-loop-i-preserved c =
-    let l = c.loop-i in
-    (search rules, every_on stamps_pass c.args.fs.now l.i [] _ _ (search rules) c.stamps_in_time.ensures l.invariant.1 c.if-not-stamps_in_time.false)
-
 pub returns : goal.returns
-returns c = every-end stamps_pass c.args.fs.now c.loop-i.i true _ (search rules) c.loop-i.invariant.1
+returns c = all_from_yields_List stamps_pass _ _ _ c.all.ensures.ran (YieldsList-from_slice c.args.fs.now cc) (λ x b q k. search (rules, tests)) ∙ all_every stamps_pass c.args.fs.now

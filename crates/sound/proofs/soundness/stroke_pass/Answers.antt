@@ -1,37 +1,24 @@
-use Rattle.sound.proofs.SoundStrokes.{part_lengths}
+use Rattle.sound.proofs.SoundStrokes.{stroke_bad, stroke_unmarked, stroke_named}
 use Rattle.sound.specs.Code.SoundStand.{stroke_columns}
-use native.Mathlib.Omega.{arith}
-use Prim.Native.Nat.{◌-◌}
 use lib.ListN.{length}
-use mathlib.Core.Path.{◌≡◌, ◌∙◌, sym}
-use borrow.Author.Tests.{le-leb, lt-leb}
-use borrow.Author.Rules.{rules}
+use borrow.Author.Tests.{lt-leb}
 use Rattle.sound.proofs.soundness.stroke_pass.Goals as goal
 
 pub returns-then-n-lt4 : goal.returns-then-n-lt4
 unfolding stroke_columns
-returns-then-n-lt4 c = rw (lt-leb 4 (length c.args.ts.now) c.if-n-lt4.true) c.unsound.ensures
+returns-then-n-lt4 c = rw (lt-leb 4 (length c.args.ts.now) c.if-n-lt4.true)
 
-pub returns-then-not-times_pass : goal.returns-then-not-times_pass
-unfolding stroke_columns
-returns-then-not-times_pass c = rw (le-leb 4 (length c.args.ts.now) c.if-n-lt4.false, sym c.times_pass.ensures ∙ c.if-not-times_pass.true) c.unsound-then-not-times_pass.ensures
-
-pub returns-then-not-merged_rows_pass : goal.returns-then-not-merged_rows_pass
-unfolding stroke_columns
-returns-then-not-merged_rows_pass c = rw (le-leb 4 (length c.args.ts.now) c.if-n-lt4.false, sym c.times_pass.ensures ∙ c.if-not-times_pass.false, sym c.merged_rows_pass.ensures ∙ c.if-not-merged_rows_pass.true) c.unsound-then-not-merged_rows_pass.ensures
-
-pub returns-then-not-counts_pass : goal.returns-then-not-counts_pass
-unfolding stroke_columns
-returns-then-not-counts_pass c = rw (le-leb 4 (length c.args.ts.now) c.if-n-lt4.false, sym c.times_pass.ensures ∙ c.if-not-times_pass.false, sym c.merged_rows_pass.ensures ∙ c.if-not-merged_rows_pass.false, sym c.counts_pass.ensures ∙ c.if-not-counts_pass.true) c.unsound-then-not-counts_pass.ensures
+pub returns-then-not-merged_columns_pass : goal.returns-then-not-merged_columns_pass
+returns-then-not-merged_columns_pass c =
+    let a = c.args in
+    stroke_bad a.rt.now a.ts.now a.ps.now a.cs.now a.es.now a.fs.now a.fp.now c.if-n-lt4.false _ c.merged_columns_pass.ensures c.if-not-merged_columns_pass.true
 
 pub returns-then-not-fractals_pass : goal.returns-then-not-fractals_pass
-unfolding stroke_columns
-returns-then-not-fractals_pass c = rw (le-leb 4 (length c.args.ts.now) c.if-n-lt4.false, sym c.times_pass.ensures ∙ c.if-not-times_pass.false, sym c.merged_rows_pass.ensures ∙ c.if-not-merged_rows_pass.false, sym c.counts_pass.ensures ∙ c.if-not-counts_pass.false, sym c.fractals_pass.ensures ∙ c.if-not-fractals_pass.true) c.unsound-then-not-fractals_pass.ensures
-
-pub rows_named-requires : goal.rows_named-requires
-rows_named-requires c = record { fact_1 = (part_lengths c.args.cs.now c.args.es.now (length c.args.ts.now - 1 - 1) 1 (length c.args.ts.now) (search rules) (search rules), search rules); fact_2 = c.requires.fact_2 }
+returns-then-not-fractals_pass c =
+    let a = c.args in
+    stroke_unmarked a.rt.now a.ts.now a.ps.now a.cs.now a.es.now a.fs.now a.fp.now c.if-n-lt4.false _ c.merged_columns_pass.ensures _ c.fractals_pass.ensures c.if-not-merged_columns_pass.false c.if-not-fractals_pass.true
 
 pub returns : goal.returns
-unfolding stroke_columns
 returns c =
-    let q : length c.args.ts.now - 1 - 1 ≡ length c.args.ts.now - 2 = omega arith in rw (le-leb 4 (length c.args.ts.now) c.if-n-lt4.false, sym c.times_pass.ensures ∙ c.if-not-times_pass.false, sym c.merged_rows_pass.ensures ∙ c.if-not-merged_rows_pass.false, sym c.counts_pass.ensures ∙ c.if-not-counts_pass.false, sym c.fractals_pass.ensures ∙ c.if-not-fractals_pass.false) (rw q at c.rows_named.ensures)
+    let a = c.args in
+    stroke_named a.rt.now a.ts.now a.ps.now a.cs.now a.es.now a.fs.now a.fp.now c.if-n-lt4.false _ c.merged_columns_pass.ensures _ _ c.fractals_pass.ensures c.if-not-merged_columns_pass.false c.if-not-fractals_pass.false c.rows_named.ensures

@@ -6,4 +6,4 @@ use Rattle.sound.proofs.soundness.three_bars.Goals as goal
 
 pub returns : goal.returns
 unfolding bars_by
-returns c = let a = c.args in let p = a.p in c.both-2.ensures ∙ (λ j. (c.bar_passes.ensures ∙ row_from a.any_sign p 0) j && (c.both.ensures ∙ (λ i. (c.bar_passes-2.ensures ∙ row_from a.any_sign p 6) i && (c.bar_passes-3.ensures ∙ row_from a.any_sign p 12) i)) j)
+returns g c = λ i. (c.bar_passes.ensures ∙ row_from _ c.args.p 0) i && ((c.bar_passes-2.ensures ∙ row_from _ c.args.p 6) i && (c.bar_passes-3.ensures ∙ row_from _ c.args.p 12) i)

@@ -1,6 +1,5 @@
-use Rattle.strokes.proofs.StoredStrokes.{last-sums, last-place-is, last_done}
+use Rattle.strokes.proofs.StoredStrokes.{last-sums, last-place-is, last_inside, last_done}
 use Rattle.strokes.specs.StateRead.{bar_counts}
-use Rattle.strokes.specs.Code.StrokeSteps.{last_place, last_bars, last_fractals}
 use mir.ValLaws.{to_z-of_z}
 use mir.Syntax.{w64}
 use lib.ListN.{length, get_or}
@@ -19,40 +18,73 @@ overflow_sub-place c =
     omega arith
 
 pub overflow_add-i : goal.overflow_add-i
-unfolding last_place last_bars last_fractals bar_counts
-overflow_add-i c = let s = c.args.stand in let p = c.requires.fact_1 in let z = c.requires.fact_2 in let one = p.strokes in let a = p.fits in let two = p.two in let b = p.ends in let d = p.fewer in let e = last-place-is s.bars s.strokes _ one c.requires.fact_3 in let j = c.end_index-e.ensures in omega arith
+overflow_add-i c =
+    let a = c.args in
+    let z = c.requires.fact_2 in
+    let p = last_inside a.stand (length a.st.now) a.used _ c.requires.fact_1 c.requires.fact_3 c.end_index-e.ensures in
+    omega arith
 
 pub overflow_add-j : goal.overflow_add-j
-unfolding last_place last_bars last_fractals bar_counts
-overflow_add-j c = let s = c.args.stand in let p = c.requires.fact_1 in let z = c.requires.fact_2 in let one = p.strokes in let a = p.fits in let two = p.two in let b = p.ends in let d = p.fewer in let e = last-place-is s.bars s.strokes _ one c.requires.fact_3 in let j = c.end_index-e.ensures in omega arith
+overflow_add-j c =
+    let a = c.args in
+    let z = c.requires.fact_2 in
+    let p = last_inside a.stand (length a.st.now) a.used _ c.requires.fact_1 c.requires.fact_3 c.end_index-e.ensures in
+    omega arith
 
 pub overflow_sub-j : goal.overflow_sub-j
-unfolding last_place last_bars last_fractals bar_counts
-overflow_sub-j c = let s = c.args.stand in let p = c.requires.fact_1 in let z = c.requires.fact_2 in let one = p.strokes in let a = p.fits in let two = p.two in let b = p.ends in let d = p.fewer in let e = last-place-is s.bars s.strokes _ one c.requires.fact_3 in let j = c.end_index-e.ensures in omega arith
-
-pub offset_bounds-fp-place : goal.offset_bounds-fp-place
-unfolding last_place last_bars last_fractals bar_counts
-offset_bounds-fp-place c = let s = c.args.stand in let p = c.requires.fact_1 in let z = c.requires.fact_2 in let one = p.strokes in let a = p.fits in let two = p.two in let b = p.ends in let d = p.fewer in let e = last-place-is s.bars s.strokes _ one c.requires.fact_3 in let j = c.end_index-e.ensures in let q : (c.args.used - get_or s.bars (s.strokes - 1) 0) < length c.args.fp.now = omega arith in search rules
+overflow_sub-j c =
+    let a = c.args in
+    let z = c.requires.fact_2 in
+    let p = last_inside a.stand (length a.st.now) a.used _ c.requires.fact_1 c.requires.fact_3 c.end_index-e.ensures in
+    omega arith
 
 pub bounds-fp-place : goal.bounds-fp-place
-unfolding last_place last_bars last_fractals bar_counts
-bounds-fp-place c = let s = c.args.stand in let p = c.requires.fact_1 in let z = c.requires.fact_2 in let one = p.strokes in let a = p.fits in let two = p.two in let b = p.ends in let d = p.fewer in let e = last-place-is s.bars s.strokes _ one c.requires.fact_3 in let j = c.end_index-e.ensures in let q : (c.args.used - get_or s.bars (s.strokes - 1) 0) < length c.args.fp.now = omega arith in search rules
-
-pub offset_bounds-fp-i : goal.offset_bounds-fp-i
-unfolding last_place last_bars last_fractals bar_counts
-offset_bounds-fp-i c = let s = c.args.stand in let p = c.requires.fact_1 in let z = c.requires.fact_2 in let one = p.strokes in let a = p.fits in let two = p.two in let b = p.ends in let d = p.fewer in let e = last-place-is s.bars s.strokes _ one c.requires.fact_3 in let j = c.end_index-e.ensures in let q : (c.args.used - get_or s.bars (s.strokes - 1) 0) + c.end_index-e.result < length c.args.fp.now = omega arith in search rules
+bounds-fp-place c =
+    let a = c.args in
+    let z = c.requires.fact_2 in
+    let p = last_inside a.stand (length a.st.now) a.used _ c.requires.fact_1 c.requires.fact_3 c.end_index-e.ensures in
+    let q : (a.used - get_or a.stand.bars (a.stand.strokes - 1) 0) < length a.fp.now = omega arith in
+    search rules
 
 pub bounds-fp-i : goal.bounds-fp-i
-unfolding last_place last_bars last_fractals bar_counts
-bounds-fp-i c = let s = c.args.stand in let p = c.requires.fact_1 in let z = c.requires.fact_2 in let one = p.strokes in let a = p.fits in let two = p.two in let b = p.ends in let d = p.fewer in let e = last-place-is s.bars s.strokes _ one c.requires.fact_3 in let j = c.end_index-e.ensures in let q : (c.args.used - get_or s.bars (s.strokes - 1) 0) + c.end_index-e.result < length c.args.fp.now = omega arith in search rules
-
-pub offset_bounds-st-j : goal.offset_bounds-st-j
-unfolding last_place last_bars last_fractals bar_counts
-offset_bounds-st-j c = let s = c.args.stand in let p = c.requires.fact_1 in let z = c.requires.fact_2 in let one = p.strokes in let a = p.fits in let two = p.two in let b = p.ends in let d = p.fewer in let e = last-place-is s.bars s.strokes _ one c.requires.fact_3 in let j = c.end_index-e.ensures in let q : (c.args.used - get_or s.bars (s.strokes - 1) 0) + get_or s.bars (s.strokes - 1) 0 - 2 < length c.args.st.now = omega arith in search rules
+bounds-fp-i c =
+    let a = c.args in
+    let z = c.requires.fact_2 in
+    let p = last_inside a.stand (length a.st.now) a.used _ c.requires.fact_1 c.requires.fact_3 c.end_index-e.ensures in
+    let q : (a.used - get_or a.stand.bars (a.stand.strokes - 1) 0) + c.end_index-e.result < length a.fp.now = omega arith in
+    search rules
 
 pub bounds-st-j : goal.bounds-st-j
-unfolding last_place last_bars last_fractals bar_counts
-bounds-st-j c = let s = c.args.stand in let p = c.requires.fact_1 in let z = c.requires.fact_2 in let one = p.strokes in let a = p.fits in let two = p.two in let b = p.ends in let d = p.fewer in let e = last-place-is s.bars s.strokes _ one c.requires.fact_3 in let j = c.end_index-e.ensures in let q : (c.args.used - get_or s.bars (s.strokes - 1) 0) + get_or s.bars (s.strokes - 1) 0 - 2 < length c.args.st.now = omega arith in search rules
+bounds-st-j c =
+    let a = c.args in
+    let z = c.requires.fact_2 in
+    let p = last_inside a.stand (length a.st.now) a.used _ c.requires.fact_1 c.requires.fact_3 c.end_index-e.ensures in
+    let q : (a.used - get_or a.stand.bars (a.stand.strokes - 1) 0) + get_or a.stand.bars (a.stand.strokes - 1) 0 - 2 < length a.st.now = omega arith in
+    search rules
+
+pub offset_bounds-fp-place : goal.offset_bounds-fp-place
+offset_bounds-fp-place c =
+    let a = c.args in
+    let z = c.requires.fact_2 in
+    let p = last_inside a.stand (length a.st.now) a.used _ c.requires.fact_1 c.requires.fact_3 c.end_index-e.ensures in
+    let q : (a.used - get_or a.stand.bars (a.stand.strokes - 1) 0) < length a.fp.now = omega arith in
+    search rules
+
+pub offset_bounds-fp-i : goal.offset_bounds-fp-i
+offset_bounds-fp-i c =
+    let a = c.args in
+    let z = c.requires.fact_2 in
+    let p = last_inside a.stand (length a.st.now) a.used _ c.requires.fact_1 c.requires.fact_3 c.end_index-e.ensures in
+    let q : (a.used - get_or a.stand.bars (a.stand.strokes - 1) 0) + c.end_index-e.result < length a.fp.now = omega arith in
+    search rules
+
+pub offset_bounds-st-j : goal.offset_bounds-st-j
+offset_bounds-st-j c =
+    let a = c.args in
+    let z = c.requires.fact_2 in
+    let p = last_inside a.stand (length a.st.now) a.used _ c.requires.fact_1 c.requires.fact_3 c.end_index-e.ensures in
+    let q : (a.used - get_or a.stand.bars (a.stand.strokes - 1) 0) + get_or a.stand.bars (a.stand.strokes - 1) 0 - 2 < length a.st.now = omega arith in
+    search rules
 
 pub returns : goal.returns
 unfolding bar_counts
@@ -61,4 +93,4 @@ returns c =
     let s = a.stand in
     last_done s a.st.now a.fp.now _ (a.used - get_or s.bars (s.strokes - 1) 0) c.end_index-e.result (last-place-is s.bars s.strokes a.used c.requires.fact_1.strokes c.requires.fact_3)
     c.end_index-e.ensures
-    c.max-high.ensures c.min-low.ensures c.row_direction-direction.ensures refl (to_z-of_z w64 _ (record { sfits = c.time-1.given })) refl
+    c.max.ensures c.min.ensures c.row_direction.ensures refl (to_z-of_z w64 _ (search rules)) refl

@@ -15,9 +15,9 @@ returns c =
     let p = c.requires in
     let b : length s.bars ≡ 65 = search rules in
     let f : length s.fractals ≡ 65 = search rules in
-    let x = c.one_down-b.ensures in
-    let y = c.one_down-f.ensures in (
+    let x = c.one_down.ensures in
+    let y = c.one_down-2.ensures in (
       λ i. record { minimum = s.minimum; most = s.most; rooms = s.rooms; raw = s.raw; unfinished = s.unfinished; strokes = s.strokes - 1; bars = x i; fractals = y i; power_places = s.power_places; ratio_places = s.ratio_places },
-      counts-down s.bars c.one_down-b.result s.strokes x (omega arith) p.0 p.1,
-      counts-down s.fractals c.one_down-f.result s.strokes y (omega arith) p.0 p.1,
+      counts-down s.bars c.one_down.result s.strokes x (omega arith) p.0 p.1,
+      counts-down s.fractals c.one_down-2.result s.strokes y (omega arith) p.0 p.1,
     )

@@ -6,6 +6,6 @@ pub returns-then-end-n : goal.returns-then-end-n
 unfolding windows_end end_if
 returns-then-end-n c = rw (lt-ltb _ _ c.if-end-n.true)
 
-pub returns : goal.returns
+pub returns-else-end-n : goal.returns-else-end-n
 unfolding windows_end end_if
-returns c = rw (le-ltb _ _ c.if-end-n.false)
+returns-else-end-n c = rw (le-ltb _ _ c.if-end-n.false)

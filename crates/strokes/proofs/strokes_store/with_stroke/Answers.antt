@@ -8,12 +8,6 @@ use mathlib.Core.Path.{◌≡◌, refl, sym, ◌∙◌}
 use borrow.Author.Rules.{rules}
 use Rattle.strokes.proofs.strokes_store.with_stroke.Goals as goal
 
-pub narrow-requires : goal.narrow-requires
-narrow-requires c = c.requires.1
-
-pub narrow-requires-2 : goal.narrow-requires-2
-narrow-requires-2 c = c.requires.2
-
 pub returns : goal.returns
 unfolding with_stroke bar_counts fractal_counts
 returns c =
@@ -21,8 +15,7 @@ returns c =
     let s = a.stand in
     let p = c.requires.0 in
     let b : length s.bars ≡ 65 = search rules in
-    let f : length s.fractals ≡ 65 = search rules in
-    rw (c.narrow.ensures, c.narrow-2.ensures) (
+    let f : length s.fractals ≡ 65 = search rules in (
       refl,
       counts-more s.bars s.strokes a.n (omega arith),
       counts-more s.fractals s.strokes a.m (omega arith),

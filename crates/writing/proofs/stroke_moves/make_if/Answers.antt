@@ -1,39 +1,24 @@
-use Rattle.writing.proofs.StepLaws.{made_one, made_none}
-use Rattle.strokes.specs.Lent.{fractal_store}
-use Rattle.stores.specs.Stores.{merged_store}
-use mathlib.Core.Path.{sym, ◌∙◌, ap}
+use Rattle.writing.proofs.StepLaws.{makeable_found, made_found, made_none}
+use Rattle.stores.specs.Columns.{merged_in, merged_of}
+use Rattle.strokes.specs.Columns.{fractals_of}
+use Rattle.std.specs.Prelude.{is_some}
+use mathlib.Core.Path.{ap}
 use native.Mathlib.Omega.{arith}
 use Rattle.writing.proofs.stroke_moves.make_if.Goals as goal
 
 pub overflow_add-first : goal.overflow_add-first
-overflow_add-first c = let p = c.requires.makes c.if-found.true in let x = p.inside in let y = p.unfinished in let z = p.merged.raw.times in omega arith
+overflow_add-first c =
+    let a = c.args in
+    let p = makeable_found a.plan.found c.in-Some.f a.plan.cut a.stand (merged_in a.unfinished) c.in-Some.is c.requires.makes in
+    let x = p.inside in let y = p.unfinished in let z = p.merged.raw.times in omega arith
 
 pub make_stroke-requires : goal.make_stroke-requires
-make_stroke-requires c = record { fact_1 = c.requires.makes c.if-found.true; fact_2 = c.requires.kept }
+make_stroke-requires c =
+    let a = c.args in
+    record { fact_1 = makeable_found a.plan.found c.in-Some.f a.plan.cut a.stand (merged_in a.unfinished) c.in-Some.is c.requires.makes; fact_2 = c.requires.kept }
 
-pub shape_of-st-then-found : goal.shape_of-st-then-found
-shape_of-st-then-found c = let h = c.make_stroke.ensures in h.kept.merged.raw.times ∙ ap (λ x. x.strokes) h.rest.rooms ∙ sym c.requires.kept.merged.raw.times
+pub returns-in-Some-clause-made : goal.returns-in-Some-clause-made
+returns-in-Some-clause-made c = let a = c.args in made_found a.plan.found c.in-Some.f a.plan.cut a.stand (merged_in a.unfinished) (merged_of a.strokes.now) (fractals_of a.fractals.now) _ _ _ c.in-Some.is c.make_stroke.ensures.made
 
-pub shape_of-si-then-found : goal.shape_of-si-then-found
-shape_of-si-then-found c = let h = c.make_stroke.ensures in h.kept.merged.raw.ids ∙ ap (λ x. x.strokes) h.rest.rooms ∙ sym c.requires.kept.merged.raw.ids
-
-pub shape_of-sp-then-found : goal.shape_of-sp-then-found
-shape_of-sp-then-found c = let h = c.make_stroke.ensures in h.kept.merged.raw.prices ∙ ap (λ x. x.strokes) h.rest.rooms ∙ sym c.requires.kept.merged.raw.prices
-
-pub shape_of-sc-then-found : goal.shape_of-sc-then-found
-shape_of-sc-then-found c = let h = c.make_stroke.ensures in h.kept.merged.counts ∙ ap (λ x. x.strokes) h.rest.rooms ∙ sym c.requires.kept.merged.counts
-
-pub shape_of-se-then-found : goal.shape_of-se-then-found
-shape_of-se-then-found c = let h = c.make_stroke.ensures in h.kept.merged.elements ∙ ap (λ x. x.strokes) h.rest.rooms ∙ sym c.requires.kept.merged.elements
-
-pub shape_of-fs-then-found : goal.shape_of-fs-then-found
-shape_of-fs-then-found c = let h = c.make_stroke.ensures in h.kept.fractals.stamps ∙ ap (λ x. x.strokes) h.rest.rooms ∙ sym c.requires.kept.fractals.stamps
-
-pub shape_of-fp-then-found : goal.shape_of-fp-then-found
-shape_of-fp-then-found c = let h = c.make_stroke.ensures in h.kept.fractals.prices ∙ ap (λ x. x.strokes) h.rest.rooms ∙ sym c.requires.kept.fractals.prices
-
-pub returns-then-found : goal.returns-then-found
-returns-then-found c = let a = c.args in made_one a.plan.found.made a.stand (merged_store a.ut.now a.ui.now a.up.now a.uc.now a.ue.now) (merged_store a.st.now a.si.now a.sp.now a.sc.now a.se.now) (fractal_store a.fs.now a.fp.now) _ _ _ _ _ c.if-found.true c.make_stroke.ensures
-
-pub returns : goal.returns
-returns c = let a = c.args in made_none a.plan.found.made a.stand (merged_store a.ut.now a.ui.now a.up.now a.uc.now a.ue.now) (merged_store a.st.now a.si.now a.sp.now a.sc.now a.se.now) (fractal_store a.fs.now a.fp.now) _ _ c.if-found.false c.requires.kept
+pub returns-clause-made : goal.returns-clause-made
+returns-clause-made c = let a = c.args in made_none (is_some a.plan.found) a.stand (merged_in a.unfinished) (merged_of a.strokes.now) (fractals_of a.fractals.now) _ _ (ap is_some c.in_default.is) c.requires.kept

@@ -1,14 +1,17 @@
+use mathlib.Core.Path.{ap}
+use Rattle.std.proofs.lemmas.Result.{err_from_is_err_and}
+use Rattle.bars.specs.Refusals.{asked}
 use Rattle.strokes.specs.Lent.{stores_of}
 use Rattle.zones.proofs.NamedRunLaws.{stroke-here, fakes-listed, fakes-refused}
 use Rattle.zones.proofs.fake_writing.create_fake_bis.Goals as goal
 
+pub returns-in_err-ask_run-clause-listed : goal.returns-in_err-ask_run-clause-listed
+returns-in_err-ask_run-clause-listed c = let a = c.args in let p = err_from_is_err_and c.from_residual.result c.from_residual.ensures.1 in rw (p.1, p.2) (fakes-refused a.stand _ a.place _ _ c.in_err-ask_run.ensures.failed)
+
 pub list_fakes-requires : goal.list_fakes-requires
 unfolding stores_of
-list_fakes-requires c = let a = c.args in let x = c.run_failed-failed.ensures in stroke-here a.stand _ x.1 x.2 a.place c.run_failed-failed.result x.0 c.if-failed-eq0.true
+list_fakes-requires c = let a = c.args in let x = c.ask_run.ensures in stroke-here a.stand _ x.counts.0 x.counts.1 a.place _ x.failed (ap asked c.in_ok-ask_run.was)
 
-pub returns-then-failed-eq0 : goal.returns-then-failed-eq0
+pub returns-clause-listed : goal.returns-clause-listed
 unfolding stores_of
-returns-then-failed-eq0 c = let a = c.args in let x = c.run_failed-failed.ensures in fakes-listed a.stand _ x.1 x.2 a.place c.run_failed-failed.result x.0 c.if-failed-eq0.true _ _ c.list_fakes.ensures
-
-pub returns : goal.returns
-returns c = fakes-refused _ _ _ _ _ c.run_failed-failed.ensures.0 c.if-failed-eq0.false
+returns-clause-listed c = let a = c.args in let x = c.ask_run.ensures in fakes-listed a.stand _ x.counts.0 x.counts.1 a.place _ x.failed (ap asked c.in_ok-ask_run.was) _ _ c.list_fakes.ensures.listed

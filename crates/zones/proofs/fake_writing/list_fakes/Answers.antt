@@ -1,25 +1,25 @@
-use borrow.Author.Rules.{rules}
-use Rattle.strokes.specs.Lent.{fractal_store}
-use Rattle.zones.specs.Code.StrokesRead.{fractal_number}
-use Rattle.zones.specs.FakeRows.{fake_columns}
-use Rattle.zones.proofs.NamedRunLaws.{fakes-room, fakes_put, fakes_full}
+use native.Mathlib.Omega.{arith}
+use Rattle.strokes.specs.Columns.{fractals_in}
+use Rattle.zones.specs.Columns.{fakes_of}
+use Rattle.zones.specs.Code.StrokesRead.{stroke_place, fractal_number}
+use Rattle.zones.proofs.FakeReads.{put_done, rows_fit}
+use Rattle.zones.proofs.NamedRunLaws.{fakes_put, fakes_full}
 use Rattle.zones.proofs.fake_writing.list_fakes.Goals as goal
 
-pub offset_bounds-fractals-i : goal.offset_bounds-fractals-i
-offset_bounds-fractals-i c = let p = c.requires.place in search rules
-
-pub bounds-fractals-i : goal.bounds-fractals-i
-bounds-fractals-i c = let p = c.requires.place in search rules
-
-pub put_fakes-count-requires : goal.put_fakes-count-requires
+pub returns-then-not-fits-clause-listed : goal.returns-then-not-fits-clause-listed
 unfolding fractal_number
-put_fakes-count-requires c = let a = c.args in
-    record { fact_1 = c.requires; fact_2 = fakes-room a.stand (fractal_store a.fs.now a.fp.now) a.i c.fake_count-n.result (fake_columns a.ot.now a.op.now a.od.now) c.fits.result c.fake_count-n.ensures c.fits.ensures c.if-fits.true }
+returns-then-not-fits-clause-listed c = let a = c.args in fakes_full a.stand (fractals_in a.fractals) a.i c.fake_count-n.result (fakes_of a.to.now) c.fits.result c.fake_count-n.ensures c.fits.ensures c.if-not-fits.true
 
-pub returns-then-fits : goal.returns-then-fits
-unfolding fractal_number
-returns-then-fits c = let a = c.args in fakes_put a.stand (fractal_store a.fs.now a.fp.now) a.i c.fake_count-n.result (fake_columns a.ot.now a.op.now a.od.now) c.fits.result c.fake_count-n.ensures c.fits.ensures c.put_fakes-count.result _ c.if-fits.true c.put_fakes-count.ensures.0 c.put_fakes-count.ensures.1
+pub total_bars-place-requires-clause-fact_2 : goal.total_bars-place-requires-clause-fact_2
+unfolding stroke_place
+total_bars-place-requires-clause-fact_2 c = let p = c.requires in let b = p.small in omega arith
 
-pub returns : goal.returns
+pub write_fakes-requires-clause-fact_1 : goal.write_fakes-requires-clause-fact_1
+write_fakes-requires-clause-fact_1 c = let a = c.args in rows_fit a.stand (fractals_in a.fractals) a.i c.total_bars-place.result c.fake_count-n.result c.requires c.total_bars-place.ensures c.fake_count-n.ensures
+
+pub returns-clause-listed : goal.returns-clause-listed
 unfolding fractal_number
-returns c = let a = c.args in fakes_full a.stand (fractal_store a.fs.now a.fp.now) a.i c.fake_count-n.result (fake_columns a.ot.now a.op.now a.od.now) c.fits.result c.fake_count-n.ensures c.fits.ensures c.if-fits.false
+returns-clause-listed c =
+    let a = c.args in
+    fakes_put a.stand (fractals_in a.fractals) a.i c.fake_count-n.result (fakes_of a.to.now) c.fits.result c.fake_count-n.ensures c.fits.ensures c.fake_count-n.result _ c.if-not-fits.false c.fake_count-n.ensures
+    (put_done a.stand (fractals_in a.fractals) a.i c.total_bars-place.result c.fake_count-n.result (fakes_of a.to.now) _ c.total_bars-place.ensures c.fake_count-n.ensures c.write_fakes.ensures.written)

@@ -4,4 +4,4 @@ use Rattle.zones.proofs.reading.summary_from.Goals as goal
 
 pub returns : goal.returns
 unfolding summary_from
-returns c = rw (c.direction_of-direction.ensures, c.max-high.ensures, c.min-low.ensures) (search rules)
+returns c = rw (c.direction_of.ensures, c.max.ensures, c.min.ensures) (search rules)

@@ -5,6 +5,6 @@ pub returns-then-x-g : goal.returns-then-x-g
 unfolding within
 returns-then-x-g c = rw c.if-x-g.true
 
-pub returns : goal.returns
+pub returns-else-x-g : goal.returns-else-x-g
 unfolding within
-returns c = rw c.if-x-g.false
+returns-else-x-g c = rw c.if-x-g.false

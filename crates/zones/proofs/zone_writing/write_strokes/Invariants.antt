@@ -1,10 +1,8 @@
-use Prim.Native.Nat.{◌≤◌, ◌-◌}
-use Rattle.zones.specs.ZoneRows.{stroke_columns}
-use Rattle.zones.proofs.ZoneWalks.{Listed}
+use mathlib.Core.Path.{◌≡◌}
+use lib.ListN.{take}
+use Rattle.zones.specs.Columns.{strokes_of, SameRows}
+use Rattle.zones.specs.ZoneRows.{put_strokes}
 use Rattle.zones.proofs.zone_writing.write_strokes.Given as goal
 
 abbrev pub invariant-loop-j : goal.invariant-loop-j
-invariant-loop-j l = (l.j ≤ l.count) × Listed l.run (stroke_columns l.initial.bt l.initial.bp l.initial.bd) (stroke_columns l.bt l.bp l.bd) l.j
-
-abbrev pub decreases-loop-j : goal.decreases-loop-j
-decreases-loop-j l = l.count - l.j
+invariant-loop-j l = (strokes_of l.to ≡ put_strokes (strokes_of l.initial.to) (take l.j l.run)) × SameRows l.initial.to l.to

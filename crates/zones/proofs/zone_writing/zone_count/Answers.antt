@@ -1,14 +1,8 @@
-use borrow.Author.Rules.{rules}
-use Rattle.zones.specs.Code.ZoneSteps.{zone_count}
-use Rattle.zones.proofs.ListedZoneLaws.{last_fits, last-counted}
+use Rattle.zones.proofs.ListedZoneLaws.{none-counted, last-counted}
 use Rattle.zones.proofs.zone_writing.zone_count.Goals as goal
 
-pub returns-then-count-eq0 : goal.returns-then-count-eq0
-unfolding zone_count
-returns-then-count-eq0 c = search rules
+pub returns-in-None : goal.returns-in-None
+returns-in-None c = none-counted c.args.built.now c.in-None.ensures.item.3
 
-pub overflow_add-result : goal.overflow_add-result
-overflow_add-result c = last_fits _ _ _ (search rules) c.requires c.if-count-eq0.false
-
-pub returns : goal.returns
-returns c = last-counted _ _ _ (search rules) c.requires c.if-count-eq0.false
+pub returns-in-Some : goal.returns-in-Some
+returns-in-Some c = last-counted c.args.built.now _ c.in-Some.ensures.item.3.0 (c.in-Some.ensures.item.3.1 _)

@@ -1,11 +1,14 @@
-use Rattle.std.proofs.Common.{eq-eqb, ne_eqb}
-use Rattle.arith.specs.Code.Accumulators.{snr_more, snr_more_if}
+use Rattle.arith.specs.Code.Accumulators.{snr_more}
 use Rattle.arith.proofs.sums.SnrSums.more.Goals as goal
 
-pub returns-then-self-eq0 : goal.returns-then-self-eq0
-unfolding snr_more snr_more_if
-returns-then-self-eq0 c = rw (eq-eqb _ _ c.if-self-eq0.true, c.change.ensures)
+pub returns-in-NoBar : goal.returns-in-NoBar
+unfolding snr_more
+returns-in-NoBar c = rw c.in-NoBar.is
 
-pub returns : goal.returns
-unfolding snr_more snr_more_if
-returns c = rw (ne_eqb _ _ c.if-self-eq0.false, c.change.ensures)
+pub returns-in-OneBar : goal.returns-in-OneBar
+unfolding snr_more
+returns-in-OneBar c = rw (c.in-OneBar.is, c.change.ensures, c.change-in-OneBar.ensures)
+
+pub returns-in-Bars : goal.returns-in-Bars
+unfolding snr_more
+returns-in-Bars c = rw (c.in-Bars.is, c.change-in-Bars.ensures)

@@ -1,16 +1,15 @@
 use lib.Ieee.{of_bits}
-use Rattle.std.proofs.Common.{eq-eqb, ne_eqb}
-use Rattle.arith.specs.Code.Accumulators.{snr_end, snr_end_if}
+use Rattle.arith.specs.Code.Accumulators.{snr_end}
 use Rattle.arith.proofs.sums.SnrSums.snr.Goals as goal
 
-pub returns-then-self-eq0 : goal.returns-then-self-eq0
-unfolding of_bits snr_end snr_end_if
-returns-then-self-eq0 c = rw (eq-eqb _ _ c.if-self-eq0.true)
+pub returns-in-NoBar : goal.returns-in-NoBar
+unfolding of_bits snr_end
+returns-in-NoBar c = rw c.in-NoBar.is
 
-pub returns-then-self-eq1 : goal.returns-then-self-eq1
-unfolding snr_end snr_end_if
-returns-then-self-eq1 c = rw (ne_eqb _ _ c.if-self-eq0.false, eq-eqb _ _ c.if-self-eq1.true) c.change-whole.ensures
+pub returns-in-OneBar : goal.returns-in-OneBar
+unfolding snr_end
+returns-in-OneBar c = rw c.in-OneBar.is c.change.ensures
 
-pub returns : goal.returns
-unfolding snr_end snr_end_if
-returns c = rw (ne_eqb _ _ c.if-self-eq0.false, ne_eqb _ _ c.if-self-eq1.false, ← c.change-whole.ensures) c.ratio.ensures
+pub returns-in-Bars : goal.returns-in-Bars
+unfolding snr_end
+returns-in-Bars c = rw (c.in-Bars.is, ← c.change-in-Bars.ensures) c.ratio.ensures

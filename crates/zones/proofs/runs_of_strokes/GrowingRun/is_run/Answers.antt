@@ -1,14 +1,12 @@
+use mathlib.Core.Path.{sym, ◌∙◌}
 use Rattle.zones.specs.Code.GrowingRun.{is_run_of}
+use Rattle.zones.proofs.RunGoes.{same_count}
 use Rattle.zones.proofs.runs_of_strokes.GrowingRun.is_run.Goals as goal
 
-pub returns-then-self-2 : goal.returns-then-self-2
+pub returns-then-eq : goal.returns-then-eq
 unfolding is_run_of
-returns-then-self-2 c = rw (c.if-self.true, c.if-self-2.true)
+returns-then-eq c = rw (sym (same_count c.args.self.count) ∙ sym c.eq.ensures ∙ c.if-eq.true)
 
-pub returns-else-self-2 : goal.returns-else-self-2
+pub returns-else-eq : goal.returns-else-eq
 unfolding is_run_of
-returns-else-self-2 c = rw (c.if-self.true, c.if-self-2.false)
-
-pub returns-else-self : goal.returns-else-self
-unfolding is_run_of
-returns-else-self c = rw c.if-self.false
+returns-else-eq c = rw (sym (same_count c.args.self.count) ∙ sym c.eq.ensures ∙ c.if-eq.false) c.if-eq.false

@@ -3,4 +3,4 @@ use Rattle.zones.proofs.runs_of_strokes.GrowingRun.more.Goals as goal
 
 pub returns : goal.returns
 unfolding more_of
-returns c = rw (c.three_with-three.ensures, c.in_order_with-in_order.ensures, c.max-gg.ensures, c.min-dd.ensures)
+returns c = rw (c.longer.ensures, c.in_order_with.ensures, c.max.ensures, c.min.ensures)

@@ -4,4 +4,4 @@ use Rattle.zones.proofs.runs_of_strokes.GrowingRun.start.Goals as goal
 
 pub returns : goal.returns
 unfolding of_bits div neg begun
-returns c = rw (c.max-gg.ensures, c.min-dd.ensures)
+returns c = rw (c.max.ensures, c.min.ensures)

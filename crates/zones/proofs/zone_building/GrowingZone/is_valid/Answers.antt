@@ -10,6 +10,6 @@ pub returns-then-first_meet : goal.returns-then-first_meet
 unfolding valid_of
 returns-then-first_meet c = rw (c.if-self.false, sym c.first_meet.ensures ∙ c.if-first_meet.true)
 
-pub returns : goal.returns
+pub returns-else-first_meet : goal.returns-else-first_meet
 unfolding valid_of
-returns c = rw (c.if-self.false, sym c.first_meet.ensures ∙ c.if-first_meet.false)
+returns-else-first_meet c = rw (c.if-self.false, sym c.first_meet.ensures ∙ c.if-first_meet.false) c.if-first_meet.false

@@ -1,15 +1,14 @@
+use mathlib.Core.Path.{◌∙◌}
 use Rattle.zones.specs.Code.GrowingZone.{joined_of, joined_if}
-use borrow.Author.Tests.{eq-eqb, ne_eqb}
+use Rattle.zones.proofs.ZoneFolds.{third_joined, later_joined}
 use Rattle.zones.proofs.zone_building.GrowingZone.joined.Goals as goal
 
-pub returns-then-self-eq1 : goal.returns-then-self-eq1
+pub returns-in-None-default : goal.returns-in-None-default
 unfolding joined_of joined_if
-returns-then-self-eq1 c = rw (eq-eqb _ _ c.if-self-eq1.true) c.joined_early.ensures
+returns-in-None-default c = rw c.in-None-default.is-0 c.joined_early.ensures
 
-pub returns-then-self-eq2 : goal.returns-then-self-eq2
-unfolding joined_of joined_if
-returns-then-self-eq2 c = rw (ne_eqb _ _ c.if-self-eq1.false, eq-eqb _ _ c.if-self-eq2.true) c.joined_early-then-self-eq2.ensures
+pub returns-in-Some-None : goal.returns-in-Some-None
+returns-in-Some-None c = let a = c.args in c.joined_early-in-Some-None.ensures ∙ third_joined a.self a.s _ c.in-Some-None.is-0 c.in-Some-None.is-1
 
-pub returns : goal.returns
-unfolding joined_of joined_if
-returns c = rw (ne_eqb _ _ c.if-self-eq1.false, ne_eqb _ _ c.if-self-eq2.false) c.joined_later.ensures
+pub returns-in-Some-Some : goal.returns-in-Some-Some
+returns-in-Some-Some c = let a = c.args in c.joined_later.ensures ∙ later_joined a.self a.s _ _ c.in-Some-Some.is-0 c.in-Some-Some.is-1

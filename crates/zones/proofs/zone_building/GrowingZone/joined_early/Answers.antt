@@ -3,4 +3,4 @@ use Rattle.zones.proofs.zone_building.GrowingZone.joined_early.Goals as goal
 
 pub returns : goal.returns
 unfolding joined_early
-returns c = rw (c.min-zg.ensures, c.max-zd.ensures, c.max-gg.ensures, c.min-dd.ensures)
+returns c = rw (c.min.ensures, c.max.ensures, c.max-2.ensures, c.min-2.ensures)

@@ -3,4 +3,4 @@ use Rattle.zones.proofs.zone_building.GrowingZone.joined_later.Goals as goal
 
 pub returns : goal.returns
 unfolding joined_later
-returns c = rw (c.max-gg.ensures, c.min-dd.ensures, c.later_with-later.ensures)
+returns c = rw (c.max.ensures, c.min.ensures, c.later_with.ensures)

@@ -4,4 +4,4 @@ use Rattle.zones.proofs.zone_building.GrowingZone.start.Goals as goal
 
 pub returns : goal.returns
 unfolding of_bits div neg started
-returns c = rw (c.min-zg.ensures, c.max-zd.ensures, c.max-gg.ensures, c.min-dd.ensures)
+returns c = rw (c.min.ensures, c.max.ensures, c.max-2.ensures, c.min-2.ensures)

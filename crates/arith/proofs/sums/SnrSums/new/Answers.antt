@@ -1,7 +1,0 @@
-use Rattle.std.proofs.Common.{refl}
-use lib.Ieee.{of_bits}
-use Rattle.arith.proofs.sums.SnrSums.new.Goals as goal
-
-pub returns : goal.returns
-unfolding of_bits
-returns c = refl

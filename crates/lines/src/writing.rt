@@ -1,0 +1,19 @@
+// What a program writes to standard output, put together in a buffer and written in few calls.
+use crate::reading::{Input, has_line};
+use std::alloc::Global;
+use std::io::{self, BufWriter, Stdout, Write};
+
+pub type Output = BufWriter<Stdout>;
+
+// Standard output, written 65,536 bytes at a time.
+pub fn buffered_output(alloc: Global, to: Stdout) -> io::Result<Output> {
+    BufWriter::with_capacity(alloc, 65536, to)
+}
+
+// Writes what waits where the next line may have to be waited for, since whoever sends it may wait for these answers.
+pub fn flush_before_reading(out: &mut Output, from: &Input) -> io::Result<()> {
+    if has_line(from) {
+        return Ok(());
+    }
+    out.flush()
+}

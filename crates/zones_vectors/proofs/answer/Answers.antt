@@ -1,7 +1,0 @@
-use lib.Seq.{length-take-le}
-use mathlib.Core.Path.{sym}
-use borrow.Author.Rules.{rules}
-use Rattle.zones_vectors.proofs.answer.Goals as goal
-
-pub slice_bounds-reply-end : goal.slice_bounds-reply-end
-slice_bounds-reply-end c = sym (length-take-le _ _ (search rules))
