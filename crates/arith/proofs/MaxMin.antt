@@ -1,9 +1,19 @@
 -- The larger and the smaller of two floats: the test by which `max` and `min` know NaN, and the bounds that both keep. Assumes nothing.
-use Rattle.std.proofs.Common.{◌≡◌, Bool, true, false, cond, not, ◌||◌, T, refl, ap, ◌∙◌, inl, inr}
-use lib.Ieee.{Float, nan, inf, fin, lt, le, is_nan}
+use Rattle.std.proofs.Common.{◌≡◌, ◌*◌, Bool, true, false, cond, not, ◌&&◌, ◌||◌, T, eqb, sym, refl, ap, ◌∙◌, inl, inr}
+use lib.Dec.{eqb_refl}
+use lib.Ieee.{Float, nan, inf, fin, up, down, lt, le, ne, is_nan}
 use lib.Ieee.Bits.{is_true, cond_no}
 use Rattle.arith.specs.Order.{max_of, min_of}
 use Rattle.arith.proofs.FloatOrder.{Number, not-nan, nan-or, decide, lt-left, lt-right, lt-le, le_refl, not-lt-le, le_trans, lt-le_trans, le_lt_trans, le_left, le_right}
+
+-- only NaN differs from itself
+pub nan_test : (x : Float) → is_nan x ≡ ne x x
+unfolding is_nan ne
+nan_test nan = refl
+nan_test (inf true) = refl
+nan_test (inf false) = refl
+nan_test (fin true m e) = ap (λ (b : Bool). not (b && true)) (sym (is_true (eqb (m * up e * down e) (m * up e * down e)) (eqb_refl (m * up e * down e))))
+nan_test (fin false m e) = ap (λ (b : Bool). not (b && true)) (sym (is_true (eqb (m * up e * down e) (m * up e * down e)) (eqb_refl (m * up e * down e))))
 
 -- ---- which of the two it is
 

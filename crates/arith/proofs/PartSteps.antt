@@ -1,5 +1,5 @@
 -- What the functions of src/rounding.rt answer from `is_finite` to `round`: the tests, the part, and each part's number. Assumes nothing.
-use Rattle.std.proofs.Common.{◌≡◌, ℕ, zero, suc, ◌+◌, ◌-◌, ◌*◌, ◌/◌, ◌^◌, ◌<◌, ◌≤◌, Bool, true, false, not, ◌||◌, T, eqb, ltb, ℤ, pos, negsuc, sym, refl, inl, inr, ap, ◌∙◌, subst, lt_of_lt_of_le, lt_of_le_of_lt, mul-le-mul_right, mod-lt, zero-lt-suc, mul_assoc, mul_comm, div-lt_iff_lt-mul, mul-pos, one-mul, div-add-mod', mul-one, arith, eqb→eq, ltb→lt, lt→ltb, pow_pos}
+use Rattle.std.proofs.Common.{◌≡◌, ℕ, zero, suc, ◌+◌, ◌-◌, ◌*◌, ◌/◌, ◌^◌, ◌<◌, ◌≤◌, Bool, true, false, not, ◌||◌, T, eqb, ltb, ℤ, pos, negsuc, sym, refl, inl, inr, ap, ◌∙◌, subst, lt_of_lt_of_le, lt_of_le_of_lt, mul-le-mul_right, mod-lt, zero-lt-suc, mul_assoc, mul_comm, div-lt_iff_lt-mul, mul-pos, one-mul, div-add-mod', mul-one, arith, eqb→eq, ltb→lt, nltb→le, lt→ltb, pow_pos}
 use native.Mathlib.Nat.{mod-one, mod-le, eq_of_mul-eq-mul_right}
 use mathlib.Core.Bool.{beq}
 use lib.Dec.{not_T}
@@ -15,7 +15,7 @@ use Rattle.arith.specs.Order.{abs_of}
 use Rattle.arith.specs.Rounding.{half_up, round_away}
 use Rattle.arith.specs.RoundingParts.{FallsTo, ToNearest, TiesToAway}
 use Rattle.arith.specs.Code.RoundingTests.{IsFraction}
-use Rattle.arith.proofs.FloatOrder.{contra, or_l, lt-or_ge}
+use Rattle.arith.proofs.FloatOrder.{no, contra, or_l, lt-or_ge}
 use Rattle.arith.proofs.FromZero.{nought}
 use Rattle.std.specs.Float.{NotNan, float_is_finite, float_with_sign, is_sign_negative, round_with, fract}
 use lib.Ieee.Scale.{round_same}
@@ -240,3 +240,7 @@ nearest-is x r t u h f = whole_unique binary64 r (round_away x) h.0 h.1 u (round
 
 pub tie-is : (x r : Float) → T (fits binary64 x) → T (fits binary64 r) → FallsTo x Tie → TiesToAway x r → r ≡ round_away x
 tie-is x r t u h f = whole_unique binary64 r (round_away x) h.0 (h.1 + 1) u (rounded-fits x) (f h.0 h.1 h.2) (four_parts.tie x t h.0 h.1 h.2)
+
+-- from 2 ^ 52 up, by the comparison of sizes
+pub far-le : (m : ℕ) (e : ℤ) → ltb (m * up e * 1) (1 * 2 ^ 52 * down e) ≡ false → 2 ^ 52 * down e ≤ m * up e
+far-le m e h = rw (mul-one, one-mul) at (nltb→le (m * up e * 1) (1 * 2 ^ 52 * down e) (no (ltb (m * up e * 1) (1 * 2 ^ 52 * down e)) h))

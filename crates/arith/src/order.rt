@@ -19,6 +19,7 @@ pub fn min(x: f64, y: f64) -> f64
 }
 
 // The sign cleared, on zeros and infinities too. NaN stays NaN.
+// Kept: the library's contract speaks of its own definition; that abs_of is the same is proved here once, for all who call this.
 pub fn abs(x: f64) -> f64
     ensures { result ≡ abs_of x }
 {

@@ -12,7 +12,8 @@ ghost use Rattle.arith.specs.RoundingPlaces.{SevenPlaces};
 ghost use Rattle.arith.specs.Code.RoundingTests.{IsFraction};
 ghost use Rattle.arith.specs.declared.rounding.Part.TheVariants.{Whole, Nearest, Tie};
 
-// Kept: f64::round answers the same, but that each part is the standard's is a claim of this project (FourParts), and part_of is what cites it.
+// Kept: f64::round answers the same. But by a rule of this project (docs/DECISIONS.md) rounding is read beside the standard part by part, and that claim
+// (FourParts) is promised by part_of.
 
 // The part that an operand falls to. Every float falls to exactly one.
 #[derive(Clone, Copy)]

@@ -102,10 +102,9 @@ impl Accumulator for SlopeSums {
         let dy = y - self.ymean;
         SlopeSums {
             n: self.n + 1.0,
-            xmean: self.xmean,
-            ymean: self.ymean,
             numerator: self.numerator + dx * dy,
             denominator: self.denominator + dx * dx,
+            ..self
         }
     }
 }
@@ -190,6 +189,7 @@ impl Accumulator for FitSums {
 
 // What SNR asks of bars in turn: of the only bar its open and close, of two and more the first open, the
 // last close and the sum of the changes.
+// Kept: no Accumulator, since it takes two values, which lie in two slices: as one its `each` would go over a slice of pairs, which no caller has.
 #[derive(Clone, Copy)]
 pub enum SnrSums {
     NoBar,

@@ -16,15 +16,13 @@ mod questions;
 
 use lines::Unanswered;
 
-// The most bytes of a line that is taken.
-const MOST: usize = 65536;
-
 // Where the input or the output fails, the answers end there.
+// Kept: a main in each *_vectors program: they share answer_lines, and here stand this one's answer, its limit and what it says where there is no answer.
 fn main(rt: HostRuntime) {
     let alloc = rt.alloc();
     let _ = lines::answer_lines(
         &rt,
-        MOST,
+        lines::MOST,
         |out, line| questions::answer(out, alloc, line),
         Unanswered::say,
     );

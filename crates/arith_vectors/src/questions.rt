@@ -2,13 +2,13 @@
 use lines::{Digits, Output, Unanswered, Words, float, whole};
 use std::alloc::{AllocError, Global};
 use std::io::Write;
+use std::str::{self, FromStr};
 
 #[derive(Clone, Copy)]
 enum Kind {
     Round,
-    Round2,
-    Round3,
-    Round4,
+    // To so many places.
+    Places(usize),
     Max,
     Min,
     Abs,
@@ -22,22 +22,26 @@ enum Kind {
 // The most values of a question that is answered.
 const MOST: usize = 4096;
 
-fn kind_of(name: &str) -> Option<Kind> {
-    Some(match name {
-        "round" => Kind::Round,
-        "round2" => Kind::Round2,
-        "round3" => Kind::Round3,
-        "round4" => Kind::Round4,
-        "max" => Kind::Max,
-        "min" => Kind::Min,
-        "abs" => Kind::Abs,
-        "sum" => Kind::Sum,
-        "mean" => Kind::Mean,
-        "slope" => Kind::Slope,
-        "acceleration" => Kind::Acceleration,
-        "snr" => Kind::Snr,
-        _ => return None,
-    })
+impl FromStr for Kind {
+    type Err = Unanswered;
+
+    fn from_str(name: &str) -> Result<Kind, Unanswered> {
+        Ok(match name {
+            "round" => Kind::Round,
+            "round2" => Kind::Places(2),
+            "round3" => Kind::Places(3),
+            "round4" => Kind::Places(4),
+            "max" => Kind::Max,
+            "min" => Kind::Min,
+            "abs" => Kind::Abs,
+            "sum" => Kind::Sum,
+            "mean" => Kind::Mean,
+            "slope" => Kind::Slope,
+            "acceleration" => Kind::Acceleration,
+            "snr" => Kind::Snr,
+            _ => return Err(Unanswered::BadLine),
+        })
+    }
 }
 
 // The values behind a line's name.
@@ -63,9 +67,7 @@ fn snr_of(alloc: Global, values: &[f64]) -> Result<f64, AllocError> {
 fn value_of(alloc: Global, kind: Kind, values: &[f64]) -> Result<f64, Unanswered> {
     Ok(match (kind, values) {
         (Kind::Round, [x]) => arith::round(*x),
-        (Kind::Round2, [x]) => arith::round_to_nth_digit(*x, 2),
-        (Kind::Round3, [x]) => arith::round_to_nth_digit(*x, 3),
-        (Kind::Round4, [x]) => arith::round_to_nth_digit(*x, 4),
+        (Kind::Places(n), [x]) => arith::round_to_nth_digit(*x, n),
         (Kind::Abs, [x]) => arith::abs(*x),
         (Kind::Max, [x, y]) => arith::max(*x, *y),
         (Kind::Min, [x, y]) => arith::min(*x, *y),
@@ -83,25 +85,22 @@ fn places_of(words: &mut Words<'_>) -> Option<f64> {
     let digit = words.next()?;
     let places: usize = whole(digit)?;
     let x = float(words.next()?)?;
-    if digit.len() == 1 && places <= 6 && words.next().is_none() {
-        Some(arith::round_to_nth_digit(x, places))
-    } else {
-        None
-    }
+    let asked = digit.len() == 1 && places <= 6 && words.next().is_none();
+    asked.then_some(arith::round_to_nth_digit(x, places))
 }
 
-fn value(alloc: Global, line: &str) -> Result<f64, Unanswered> {
-    let mut words = line.split(' ');
+fn value(alloc: Global, line: &[u8]) -> Result<f64, Unanswered> {
+    let mut words = str::from_utf8(line)?.split(' ');
     let name = words.next().unwrap_or("");
     if name == "places" {
         return places_of(&mut words).ok_or(Unanswered::BadLine);
     }
-    let kind = kind_of(name).ok_or(Unanswered::BadLine)?;
+    let kind = name.parse::<Kind>()?;
     value_of(alloc, kind, &values_of(alloc, words)?)
 }
 
 // Writes the answer to a line.
-pub fn answer(out: &mut Output, alloc: Global, line: &str) -> Result<(), Unanswered> {
+pub fn answer(out: &mut Output, alloc: Global, line: &[u8]) -> Result<(), Unanswered> {
     writeln!(out, "{}", Digits(value(alloc, line)?))?;
     Ok(())
 }

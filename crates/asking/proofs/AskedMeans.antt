@@ -5,18 +5,21 @@ use mathlib.Core.Bool.{Bool, true, false}
 use mathlib.Core.List.{List, [], ◌∷◌, map}
 use mathlib.Core.Option.{Option, none, some}
 use mathlib.Core.Path.{◌≡◌, refl, ap, sym, ◌∙◌, subst}
-use lib.ListN.{length, take}
-use Rattle.std.specs.Prelude.{Some}
+use lib.ListN.{length, take, length-map}
+use Rattle.std.specs.Prelude.{Some, Ok, Err}
 use Rattle.bars.specs.declared.Bar.{Bar}
+use Rattle.bars.specs.declared.refusals.Question.{Question}
+use Rattle.bars.specs.Refusals.{number}
 use Rattle.bars.specs.Bars.{Merged}
 use Rattle.bars.specs.Lists.{last, init}
 use Rattle.bars.specs.Questions.{first_failed}
 use Rattle.stores.specs.Stores.{MergedStore, raw_bars, raw_part}
-use Rattle.stores.specs.Code.StoreRows.{SizedRaw, bar_at}
+use Rattle.stores.specs.Code.StoreRows.{bar_at}
 use Rattle.machine.specs.declared.Mark.{Mark}
 use Rattle.machine.specs.declared.Mark.TheVariants.{D, G}
 use Rattle.machine.specs.Strokes.{Stroke, direction_of}
 use Rattle.machine.specs.Stand.{Settings, State}
+use Rattle.machine.specs.Names.{starting_mark}
 use Rattle.machine.specs.Feed.{is_later, merged_with}
 use Rattle.machine.specs.Soundness.{bars_of}
 use Rattle.machine.specs.FeedQuestions.{fewer_if, merged, question10, question11, question12, or_else, first_of, failed_after4}
@@ -29,18 +32,17 @@ use Rattle.strokes.proofs.StoredStrokes.{last-is}
 use Rattle.sound.proofs.SoundFacts.{Facts}
 use Rattle.check_bi.specs.Code.Scan.{candle_of}
 use Rattle.asking.specs.declared.plan.Plan.{Plan}
-use Rattle.asking.specs.declared.questions.Early.{Early}
-use Rattle.asking.specs.declared.questions.Tried.{Tried}
-use Rattle.asking.specs.Code.MergedTail.{merged_by}
+use Rattle.asking.specs.Code.MergedTail.{Holds, merged_by}
 use Rattle.asking.specs.Code.FeedPlan.{plan_of, refused_of}
 use Rattle.asking.specs.Code.Asked.{time_or0, last_of, plan_for, AskedOf}
-use Rattle.asking.specs.Code.AskSteps.{early_by, EarlyOf, mark_for, last_from, last_in, CanTry, tried_bars, TriedOf}
+use Rattle.asking.specs.Code.AskSteps.{early_by, EarlyOf, last_from, last_in, planned, CanTry, tried_bars, TriedOf}
+use Rattle.asking.proofs.AskLaws.{numbered}
 use Rattle.asking.proofs.PlanMeans.{KeptLast, Planned, plan_means, questions_asked}
 
 -- ---- the last stroke
 
-mark-back : (m : Mark) → mark_for (direction_of m) ≡ m
-unfolding mark_for direction_of
+mark-back : (m : Mark) → starting_mark (direction_of m) ≡ m
+unfolding direction_of
 mark-back D = refl
 mark-back G = refl
 
@@ -85,7 +87,7 @@ module _ (s : Stand) (k : MergedStore) (f : FractalStore) (kept : Kept s k f) (s
   last_by (suc n) e =
       let r = read (omega arith) in
       (λ i. Some (record {
-        mark = (ap mark_for r.direction ∙ mark-back r.stroke.start.mark) i;
+        mark = (ap starting_mark r.direction ∙ mark-back r.stroke.start.mark) i;
         high = r.high i;
         low = r.low i;
         bars = r.count i;
@@ -99,13 +101,14 @@ module _ (s : Stand) (k : MergedStore) (f : FractalStore) (kept : Kept s k f) (s
 
 -- ---- the questions in order
 
-first_then : (q n : ℕ) (t : Bool) → (first_of q (or_else t 10 0) ≡ 0 → ⊥) → first_of q (or_else t 10 0) ≡ first_of q (or_else t 10 n)
+-- what stands behind question 10 is asked where none before it is answered "no"
+then_asked : (q n : ℕ) (t : Bool) (x : ℕ) → x ≡ first_of q (or_else t 10 0) → (x ≡ 0 → ⊥) → x ≡ first_of q (or_else t 10 n)
 unfolding first_of or_else
-first_then zero n true h = absurd (h refl)
-first_then zero n false h = refl
-first_then (suc q) n t h = refl
+then_asked zero n true x e h = absurd (h e)
+then_asked zero n false x e h = e
+then_asked (suc q) n t x e h = e
 
-first-passed : (q n : ℕ) (t : Bool) → first_of q (or_else t 10 0) ≡ 0 → n ≡ first_of q (or_else t 10 n)
+first-passed : (q n : ℕ) (t : Bool) → 0 ≡ first_of q (or_else t 10 0) → n ≡ first_of q (or_else t 10 n)
 unfolding first_of or_else
 first-passed zero n true h = refl
 first-passed zero n false h = absurd (omega arith)
@@ -124,36 +127,33 @@ some-raw l (suc n) b h = omega arith
 
 -- ---- a sound stand is asked
 
-module _ (s : Stand) (m : Stores) (h : Facts s m) (lb : length s.bars ≡ 65) (lf : length s.fractals ≡ 65) (b : Bar) (e : Early)
-    (early : EarlyOf (last (take s.raw (raw_bars m.raw))) s.raw s.rooms.raw b e) where
+module _ (s : Stand) (m : Stores) (h : Facts s m) (lb : length s.bars ≡ 65) (lf : length s.fractals ≡ 65) (b : Bar) where
   abbrev c : Settings
   c = settings_of s
 
   abbrev st : State
   st = state_of s m
 
-  later-is : e.later ≡ is_later (last st.raw) b
-  unfolding state_of
-  later-is = early.later
+  abbrev newest : Option Bar
+  newest = last (take s.raw (raw_bars m.raw))
 
-  early-is : e.failed ≡ first_of (first_failed (last st.raw) b) (or_else (question10 c st b) 10 0)
+  early-is : (x : ℕ) → x ≡ early_by (first_failed newest b) (is_later newest b) s.raw s.rooms.raw → x ≡ first_of (first_failed (last st.raw) b) (or_else (question10 c st b) 10 0)
   unfolding state_of settings_of question10 early_by
-  early-is =
-      early.failed ∙ ap (λ (n : ℕ). first_of (first_failed (last st.raw) b) (or_else (fewer_if (is_later (last st.raw) b) n s.rooms.raw) 10 0)) (sym h.raw-length)
+  early-is x e = e ∙ ap (λ (n : ℕ). first_of (first_failed (last st.raw) b) (or_else (fewer_if (is_later (last st.raw) b) n s.rooms.raw) 10 0)) (sym h.raw-length)
 
   -- one of questions 5 to 10 is answered "no"
-  pub asked-early : (p : Plan) → (e.failed ≡ 0 → ⊥) → AskedOf c st b (record { failed = e.failed; later = e.later; plan = p })
+  pub asked-early : (q : Question) → EarlyOf newest s.raw s.rooms.raw b (Err q) → AskedOf c st b (Err q)
   unfolding failed_after4
-  asked-early p refuses =
-      let q = first_failed (last st.raw) b in
+  asked-early q early =
       record {
-        failed = early-is ∙ first_then q (or_else (question11 c st b) 11 (or_else (question12 c st b) 12 0)) (question10 c st b) (λ z. refuses (early-is ∙ z));
-        later = λ z. absurd (refuses z);
-        plan = λ z. absurd (refuses z);
+        failed = then_asked (first_failed (last st.raw) b) (or_else (question11 c st b) 11 (or_else (question12 c st b) 12 0)) (question10 c st b) (number q) (early-is (number q) early.failed) (numbered q);
+        later = tt;
+        plan = tt;
       }
 
-  pub can_try : (used : ℕ) → used ≡ total (bar_counts s) → CanTry e.later s m.raw m.unfinished m.strokes.times m.fractals.prices used
-  can_try used sum =
+  pub can_try : (later : Bool) → later ≡ is_later newest b → CanTry later s m
+  unfolding bar_counts
+  can_try later is =
       let r = h.rising-raw in
       let ra = r.sized.times in
       let u = h.unfinished in
@@ -164,6 +164,8 @@ module _ (s : Stand) (m : Stores) (h : Facts s m) (lb : length s.bars ≡ 65) (l
       let strokes = h.room-strokes.to in
       let sa = h.strokes.raw.times in
       let fa = h.fractals.prices in
+      let few = h.few-strokes in
+      let fit = h.few-bars in
       record {
         raw = record { sized = record { times = refl; ids = r.sized.ids ∙ sym ra; prices = r.sized.prices ∙ sym ra }; fits = omega arith; rise = r.rise };
         unfinished =
@@ -171,9 +173,9 @@ module _ (s : Stand) (m : Stores) (h : Facts s m) (lb : length s.bars ≡ 65) (l
         fits = omega arith;
         small = omega arith;
         again = λ z.
-            (let l = h.last_has (some-raw (raw_bars m.raw) s.raw b (sym early.later ∙ z)) in
+            (let l = h.last_has (some-raw (raw_bars m.raw) s.raw b (sym is ∙ z)) in
             record { kept = l.kept; some = l.some; most = l.most });
-        last = record { stands = λ one. subst (LastStands s) (sym sa) (h.last-stands one); even = fa ∙ sym sa; few = omega arith; sum = sum };
+        last = record { stands = λ one. subst (LastStands s) (sym sa) (h.last-stands one); even = fa ∙ sym sa; few = omega arith; most = omega arith; sum = omega arith };
       }
 
   strokes_are : length (kept_strokes s m.strokes m.fractals) ≡ s.strokes
@@ -183,53 +185,50 @@ module _ (s : Stand) (m : Stores) (h : Facts s m) (lb : length s.bars ≡ 65) (l
   abbrev last-here : Stood (kept_strokes s m.strokes m.fractals)
   last-here = stood s m.strokes m.fractals h.kept h.last-stands strokes_are lb lf
 
-  bars_are : tried_bars e.later s m.raw m.unfinished b ≡ merged st b
-  unfolding tried_bars state_of merged
-  bars_are = merged_by_lem e.later st b ∙ ap (λ (x : Bool). merged_with x st b) later-is
-
-  plan-is : plan_of s.minimum (last_in s.strokes s m.strokes.times m.fractals.prices) (map candle_of (tried_bars e.later s m.raw m.unfinished b)) ≡ plan_for c st b
+  planned_for : Planned c.minimum (merged st b) st.strokes last-here.stroke (plan_for c st b)
   unfolding plan_for settings_of state_of kept_strokes
-  plan-is =
-      λ i. plan_of s.minimum (last_read_lem s m.strokes m.fractals h.kept h.last-stands strokes_are lb lf i) (map candle_of (bars_are i))
-
-  planned : Planned c.minimum (merged st b) st.strokes last-here.stroke (plan_for c st b)
-  unfolding plan_for settings_of state_of kept_strokes
-  planned =
+  planned_for =
       plan_means s.minimum (merged st b) (map candle_of (merged st b)) refl last-here.stroke st.strokes (last_of (last st.strokes))
       (kept-last st.strokes last-here)
 
   -- all of questions 5 to 10 are answered "yes"
-  pub asked-last : (t : Tried) (used number : ℕ) → e.failed ≡ 0 → TriedOf e.later s m.raw m.unfinished m.strokes.times m.fractals.prices b t → used ≡ total (take s.strokes s.bars)
-      → number ≡ refused_of t.plan t.total s.rooms.unfinished used s.rooms.strokes → AskedOf c st b (record { failed = number; later = e.later; plan = t.plan })
-  unfolding failed_after4 settings_of bar_counts
-  asked-last t used number passed tried sum asks =
-      let p : t.plan ≡ plan_for c st b = tried.plan ∙ plan-is in
-      let n : t.total ≡ length (merged st b) = tried.total ∙ ap length bars_are in
-      let w : used ≡ bars_of st.strokes = sum ∙ sym h.bars-length in
-      let q = first_failed (last st.raw) b in
-      record {
-        failed =
-            asks
-            ∙ (λ i. refused_of (p i) (n i) s.rooms.unfinished (w i) s.rooms.strokes)
-            ∙ questions_asked c st b last-here.stroke (plan_for c st b) planned
-            ∙ first-passed q (or_else (question11 c st b) 11 (or_else (question12 c st b) 12 0)) (question10 c st b) (sym early-is ∙ passed);
-        later = λ z. later-is;
-        plan = λ z. p;
-      }
+  module _ (later : Bool) (early : EarlyOf newest s.raw s.rooms.raw b (Ok later)) where
+    bars_are : tried_bars later s m.raw m.unfinished b ≡ merged st b
+    unfolding tried_bars state_of merged
+    bars_are = merged_by_lem later st b ∙ ap (λ (x : Bool). merged_with x st b) early.later
 
--- what is asked of the sum of the strokes' bars
-pub sum-small : (s : Stand) (m : Stores) → Facts s m → (s.strokes ≤ 65) × (total (take s.strokes s.bars) ≤ 65536)
-unfolding bar_counts
-sum-small s m h =
-    let few = h.few-strokes in
-    let fit = h.few-bars in
-    let room = h.room-strokes.to in
-    (omega arith, omega arith)
+    plan-is : planned s (map candle_of (tried_bars later s m.raw m.unfinished b)) m.strokes.times m.fractals.prices ≡ plan_for c st b
+    unfolding plan_for settings_of state_of kept_strokes
+    plan-is =
+        λ i. plan_of s.minimum (last_read_lem s m.strokes m.fractals h.kept h.last-stands strokes_are lb lf i) (map candle_of (bars_are i))
+
+    asks : (n : ℕ)
+        → n ≡ refused_of (planned s (map candle_of (tried_bars later s m.raw m.unfinished b)) m.strokes.times m.fractals.prices) (length (map candle_of (tried_bars later s m.raw m.unfinished b)))
+        s.rooms.unfinished (total (bar_counts s)) s.rooms.strokes
+        → n ≡ failed_after4 c st b
+    unfolding failed_after4 settings_of bar_counts
+    asks n e =
+        let v = tried_bars later s m.raw m.unfinished b in
+        let q = first_failed (last st.raw) b in
+        let w : total (take s.strokes s.bars) ≡ bars_of st.strokes = sym h.bars-length in
+        e
+        ∙ (λ i. refused_of (plan-is i) ((length-map v candle_of ∙ ap length bars_are) i) s.rooms.unfinished (w i) s.rooms.strokes)
+        ∙ questions_asked c st b last-here.stroke (plan_for c st b) planned_for
+        ∙ first-passed q (or_else (question11 c st b) 11 (or_else (question12 c st b) 12 0)) (question10 c st b) (early-is 0 early.failed)
+
+    -- one of questions 11 and 12 is answered "no"
+    pub asked-late : (q : Question) → TriedOf later s m b (Err q) → AskedOf c st b (Err q)
+    asked-late q tried = record { failed = asks (number q) tried.failed; later = tt; plan = tt }
+
+    -- both are answered "yes"
+    pub asked-last : (p : Plan) → TriedOf later s m b (Ok p) → AskedOf c st b (Ok (record { later = later; plan = p }))
+    unfolding state_of
+    asked-last p tried = record { failed = asks 0 tried.failed; later = early.later; plan = tried.plan ∙ plan-is }
 
 -- what questions 5 to 10 ask of the raw store
-pub early_asks : (s : Stand) (m : Stores) → Facts s m → SizedRaw m.raw (length m.raw.times) × (s.raw ≤ length m.raw.times)
+pub early_asks : (s : Stand) (m : Stores) → Facts s m → Holds m.raw s.raw
 early_asks s m h =
     let r = h.raw in
     let e = r.times in
     let few = h.few-raw in
-    (record { times = refl; ids = r.ids ∙ sym e; prices = r.prices ∙ sym e }, omega arith)
+    record { store = record { times = refl; ids = r.ids ∙ sym e; prices = r.prices ∙ sym e }; kept = omega arith }

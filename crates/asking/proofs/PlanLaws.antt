@@ -14,7 +14,7 @@ use lib.Signed.{le_z, lt_z}
 use lib.Dec.{T, leb, ltb}
 use lib.Ieee.{Float}
 use borrow.Author.Tests.{le-leb, lt-leb, lt-ltb, le-ltb}
-use Rattle.std.specs.Prelude.{Option, Some, None, IfSome}
+use Rattle.std.specs.Prelude.{Option, Some, None}
 use Rattle.bars.proofs.Times.{le_not_lt, not-lt-le}
 use Rattle.stores.specs.Stores.{zip_with}
 use Rattle.stores.specs.Code.StoreRows.{next_if, place_of}

@@ -9,9 +9,11 @@ ghost use Rattle.asking.specs.Code.FeedPlan.{Long, end_in, bars_made, breaks_of,
 use bars::Question;
 use check_bi::{Candle, FoundBi, View, found_bi};
 use machine::Mark;
+use strokes::Rooms;
 
 // Of the last stroke, what its break goes by: its start's mark, its high and low, how many merged bars it has, and the time of
 // the last but one of them.
+// Kept: beside LastStroke of strokes: it is also made of a stroke that is only found yet and has no place in the store, and of which a break asks the mark.
 #[derive(Clone, Copy)]
 pub struct Last {
     pub mark: Mark,
@@ -37,10 +39,7 @@ pub struct Plan {
 pub fn end_in(found: Option<FoundBi>) -> usize
     ensures { result ≡ end_in found }
 {
-    match found {
-        None => 0,
-        Some(f) => f.end.place,
-    }
+    found.map_or(0, |f| f.end.place)
 }
 
 // How many merged bars the found stroke has, and 0 where none is found.
@@ -48,15 +47,14 @@ pub fn end_in(found: Option<FoundBi>) -> usize
 pub fn bars_made(found: Option<FoundBi>) -> usize
     ensures { result ≡ bars_made found }
 {
-    match found {
-        None => 0,
-        Some(f) => f.bars,
-    }
+    found.map_or(0, |f| f.bars)
 }
 
 // The first place of the view from lo on whose time is not before t.
+// Kept: tried, `(lo..end).find(|i| t <= view.candle(*i).time).unwrap_or(end)`. The laws of it close, but not the step from what a call of the closure answered to the
+// test on the signed time in `times_in`.
 fn skip(view: View<'_>, lo: usize, t: i64) -> usize
-    requires { lo ≤ places view }
+    requires { (places view < 4294967296) × (lo ≤ places view) }
     ensures { (result ≡ lo + place_of t (drop lo (times_in view.entry))) × (result ≤ places view.entry) }
 {
     let end = view.len();
@@ -84,16 +82,16 @@ fn breaks(b: Last, k: Candle) -> bool
 fn last_with(found: Option<FoundBi>, b: Last) -> Last
     ensures { result ≡ last_with found b }
 {
-    match found {
-        None => b,
-        Some(f) => Last {
+    found.map_or(
+        b,
+        |f| Last {
             mark: f.start.mark,
             high: arith::max(f.start.high, f.end.high),
             low: arith::min(f.start.low, f.end.low),
             bars: f.bars,
             time: f.end.time,
         },
-    }
+    )
 }
 
 // No stroke breaks.
@@ -114,8 +112,11 @@ fn kept_plan(cut: usize, found: Option<FoundBi>, total: usize) -> Plan
 // No stroke was kept before: the view is cut, and check_bi asked from there on. Where nothing is cut off, the scan that the
 // cut was read from is the one to ask. Before the first stroke nothing is cut off a series without fractals, which grows with every bar: the first `clear` windows
 // of the store's rows, of which it is known, are not looked at again.
+// Kept: `clear` is a number with its fact beside it, here and wherever a feed is asked: the store's rows are written while batch keeps the number,
+// and a value that holds the fact would borrow these rows.
 fn first_plan(view: View<'_>, minimum: usize, clear: usize) -> Plan
-    requires { NoFractals view.prices.now clear }
+    requires few { places view < 4294967296 }
+    requires none { NoFractals view.prices.now clear }
     ensures value { result ≡ plan_first minimum (bars_in view.entry) (places view.entry) }
     ensures in_view { InView result (places view.entry) }
 {
@@ -132,7 +133,9 @@ fn first_plan(view: View<'_>, minimum: usize, clear: usize) -> Plan
 
 // A stroke was kept before: b, or the one that is found now, is tested against the last unfinished bar.
 fn later_plan(view: View<'_>, b: Last, minimum: usize) -> Plan
-    requires { (0 < places view) × Long b }
+    requires few { places view < 4294967296 }
+    requires more { 0 < places view }
+    requires long { Long b }
     ensures value { result ≡ plan_later minimum b (bars_in view.entry) (places view.entry) }
     ensures in_view { InView result (places view.entry) }
 {
@@ -154,8 +157,9 @@ fn later_plan(view: View<'_>, b: Last, minimum: usize) -> Plan
 // What a feed would do where `last` is the last of the strokes that are kept, if one is, and the view has the unfinished bars after merging. The first `clear` windows of
 // its store's rows hold no fractal.
 pub fn plan_of(view: View<'_>, last: Option<Last>, minimum: usize, clear: usize) -> Plan
-    requires fact_1 { IfSome last Long }
-    requires fact_2 { NoFractals view.prices.now clear }
+    requires few { places view < 4294967296 }
+    requires long { IfSome last Long }
+    requires none { NoFractals view.prices.now clear }
     ensures value { result ≡ plan_of minimum last (bars_in view.entry) }
     ensures in_view { InView result (places view.entry) }
 {
@@ -168,31 +172,16 @@ pub fn plan_of(view: View<'_>, last: Option<Last>, minimum: usize, clear: usize)
     }
 }
 
-// What stands for a plan where none is made.
-pub fn no_plan() -> Plan {
-    Plan {
-        cut: 0,
-        found: None,
-        broken: None,
-        left: 0,
-    }
-}
-
-// Questions 11 and 12. There are `total` unfinished bars after merging and room for `room`, and `used` bars of strokes and places for `places`.
-pub fn refused(
-    p: Plan,
-    total: usize,
-    room: usize,
-    used: usize,
-    places: usize,
-) -> Result<(), Question>
+// Questions 11 and 12, where there are `total` unfinished bars after merging, and `used` bars of strokes.
+pub fn refused(p: Plan, total: usize, used: usize, rooms: Rooms) -> Result<(), Question>
     requires { (used < 4294967296) × (bars_made p.found < 4294967296) }
-    ensures { asked result ≡ refused_of p total room used places }
+    ensures { asked result ≡ refused_of p total rooms.unfinished used rooms.strokes }
 {
+    let room = rooms.unfinished;
     if room < total || room < p.left {
         return Err(Question::UnfinishedRoom);
     }
-    if places < used + bars_made(p.found) {
+    if rooms.strokes < used + bars_made(p.found) {
         return Err(Question::StrokeRoom);
     }
     Ok(())

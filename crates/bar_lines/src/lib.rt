@@ -5,17 +5,21 @@ use bars::{Bar, Gap, Side};
 use lines::{Digits, Spaced, Words, float, whole};
 use std::fmt;
 
+fn next_float(words: &mut Words<'_>) -> Option<f64> {
+    float(words.next()?)
+}
+
 // The bar of the next eight words.
 pub fn read_bar(words: &mut Words<'_>) -> Option<Bar> {
     Some(Bar {
         time: whole(words.next()?)?,
         id: whole(words.next()?)?,
-        open: float(words.next()?)?,
-        close: float(words.next()?)?,
-        high: float(words.next()?)?,
-        low: float(words.next()?)?,
-        vol: float(words.next()?)?,
-        amount: float(words.next()?)?,
+        open: next_float(words)?,
+        close: next_float(words)?,
+        high: next_float(words)?,
+        low: next_float(words)?,
+        vol: next_float(words)?,
+        amount: next_float(words)?,
     })
 }
 
@@ -26,8 +30,7 @@ pub struct BarText(pub Bar);
 impl fmt::Display for BarText {
     fn fmt<W: fmt::Write>(&self, f: &mut fmt::Formatter<W>) -> fmt::Result {
         let b = self.0;
-        let floats = [b.open, b.close, b.high, b.low, b.vol, b.amount];
-        write!(f, "{} {}{}", b.time, b.id, Spaced(&floats))
+        write!(f, "{} {}{}", b.time, b.id, Spaced(&b.prices()))
     }
 }
 
@@ -38,6 +41,7 @@ pub struct GapText(pub Gap);
 impl fmt::Display for GapText {
     fn fmt<W: fmt::Write>(&self, f: &mut fmt::Formatter<W>) -> fmt::Result {
         let gap = self.0;
+        // Kept: the one place that writes a side; Display would be this match in bars.
         f.write_str(match gap.side {
             Side::Up => "up",
             Side::Down => "down",

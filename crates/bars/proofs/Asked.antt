@@ -9,33 +9,12 @@ use Rattle.bars.specs.declared.Bar.{Bar}
 use Rattle.bars.specs.declared.refusals.Question.{Question}
 use Rattle.bars.specs.declared.refusals.Question.TheVariants.{MinimumLength, MostStrokes, Rooms, Sound, Time, Prices, Volumes, LowAtMostHigh, NotEarlier, RawRoom, UnfinishedRoom, StrokeRoom, Exists, OutputRoom, Summary, Places, Record, Digits}
 use Rattle.bars.specs.Refusals.{number}
-use Rattle.bars.specs.Questions.{is_price, question5, question6, question7, question8, question9, first_no, first_failed, first_failed_after, not_earlier}
+use Rattle.bars.specs.Questions.{question5, question6, question7, question8, question9, first_no, first_failed, first_failed_after, not_earlier}
 
 -- ---- tests asked one after the other
 
-pub and_yes : (p q : Bool) → p ≡ true → q ≡ p && q
-and_yes p q a = rw a
-
 pub and_no : (p q : Bool) → p ≡ false → false ≡ p && q
 and_no p q a = rw a
-
--- question 6, a price at a time
-module _ (b : Bar) where
-  pub prices_no_1 : is_price b.«open» ≡ false → false ≡ question6 b
-  unfolding question6
-  prices_no_1 p = rw p
-
-  pub prices_no_2 : is_price b.«open» ≡ true → is_price b.close ≡ false → false ≡ question6 b
-  unfolding question6
-  prices_no_2 p q = rw (p, q)
-
-  pub prices_no_3 : is_price b.«open» ≡ true → is_price b.close ≡ true → is_price b.high ≡ false → false ≡ question6 b
-  unfolding question6
-  prices_no_3 p q r = rw (p, q, r)
-
-  pub prices-last : is_price b.«open» ≡ true → is_price b.close ≡ true → is_price b.high ≡ true → is_price b.low ≡ question6 b
-  unfolding question6
-  prices-last p q r = rw (p, q, r)
 
 -- ---- the first that fails
 

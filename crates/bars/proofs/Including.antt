@@ -1,7 +1,7 @@
 -- Laws of remove_include: what each way through it answers, and that the bars are the same with the elements and without them. Assumes nothing.
 use Prim.Native.Nat.{ℕ, zero, suc, ◌+◌, ◌<◌}
 use mathlib.Core.Path.{◌≡◌, refl, ap, ◌∙◌}
-use mathlib.Core.Bool.{Bool, true, false, ◌&&◌, cond}
+use mathlib.Core.Bool.{Bool, true, false, cond}
 use Rattle.std.proofs.Common.{min}
 use mathlib.Core.List.{List, [], ◌∷◌, ◌++◌, map, head-eq_of_cons-eq}
 use native.Mathlib.Omega.{arith}
@@ -9,7 +9,7 @@ use native.Mathlib.Numerals.{add-one}
 use lib.ListN.{length, take, set}
 use lib.Seq.{take-suc-set}
 use lib.IntN.{ℤ}
-use lib.Ieee.{Float, binary64, lt, le, add}
+use lib.Ieee.{Float, binary64, lt, add}
 use Rattle.std.specs.Prelude as Std
 use Rattle.arith.specs.Order.{max_of, min_of}
 use Rattle.bars.specs.declared.Bar.{Bar}
@@ -17,17 +17,6 @@ use Rattle.bars.specs.declared.NewBar.{NewBar}
 use Rattle.bars.specs.Bars.{Merged, merged_of, own}
 use Rattle.bars.specs.Merging.{contains, united, merged_up, merged_down, settle, remove_include}
 use Rattle.bars.specs.Code.MergedBars.{united_bar, merged_up_bar, merged_down_bar, settle_bar, remove_include_bar, remove_include_after, in_place_of, with_element}
-
--- ---- the tests, one at a time
-
-module _ (a b : Bar) where
-  pub contains-first : (le a.high b.high && le b.low a.low) ≡ true → true ≡ contains a b
-  unfolding contains
-  contains-first p = rw p
-
-  pub contains-second : (le a.high b.high && le b.low a.low) ≡ false → (le b.high a.high && le a.low b.low) ≡ contains a b
-  unfolding contains
-  contains-second p = rw p
 
 -- ---- k2 and k3 as one bar
 

@@ -57,9 +57,6 @@ module _ {A : Type 0} where
       let h : 0 + j ≡ j = zero-add j in
       copied-turn d s l 0 0 j j z v e (omega arith) (omega arith) (sym h) (rw h q)
 
-  pub copied-end : (d s l : List A) (at from i n : ℕ) → l ≡ copied d at s from i → i ≤ n → n ≤ i → l ≡ copied d at s from n
-  copied-end d s l at from i n e h k = let q : i ≡ n = omega arith in rw (← q) e
-
   -- ---- the same within one list, down
 
   -- a row that is still to be moved is as it was
@@ -111,19 +108,15 @@ module _ {A : Type 0} where
       ∙ get_or-append (take (at + i) s) (take m (drop (from + i) s) ++ drop (at + i + m) s) z (from + j) (omega arith)
       ∙ get_or-take (at + i) s (from + j) z (omega arith)
 
-  pub up_none : (s : List A) (at from n : ℕ) → s ≡ copied s (at + n) s (from + n) (n - n)
-  up_none s at from n = let c : n - n ≡ 0 = omega arith in rw c (copied_none s s (at + n) (from + n))
-
-  pub up_turn : (s l : List A) (at from n i : ℕ) (z v : A)
-      → l ≡ copied s (at + i) s (from + i) (n - i)
+  pub up_turn : (s l : List A) (at from n j : ℕ) (z v : A)
+      → l ≡ copied s (at + (j + 1)) s (from + (j + 1)) (n - (j + 1))
       → from ≤ at
       → at + n ≤ length s
-      → i ≤ n
-      → 0 < i
-      → v ≡ get_or l (from + (i - 1)) z
-      → set l (at + (i - 1)) v ≡ copied s (at + (i - 1)) s (from + (i - 1)) (n - (i - 1))
-  up_turn s l at from n i z v e h k g b q =
-      let j = i - 1 in
+      → j < n
+      → v ≡ get_or l (from + j) z
+      → set l (at + j) v ≡ copied s (at + j) s (from + j) (n - j)
+  up_turn s l at from n j z v e h k b q =
+      let i = j + 1 in
       let a : at + i ≡ suc (at + j) = omega arith in
       let f : from + i ≡ suc (from + j) = omega arith in
       let m : n - j ≡ suc (n - i) = omega arith in
@@ -131,13 +124,6 @@ module _ {A : Type 0} where
       (λ t. set ((e ∙ (λ u. copied s (a u) s (f u) (n - i))) t) (at + j) (r t))
       ∙ copied-back s s (at + j) (from + j) (n - i) z (omega arith) (omega arith)
       ∙ ap (copied s (at + j) s (from + j)) (sym m)
-
-  pub up-end : (s l : List A) (at from n i : ℕ) → l ≡ copied s (at + i) s (from + i) (n - i) → i ≤ 0 → l ≡ copied s at s from n
-  up-end s l at from n i e h =
-      let a : at + i ≡ at = omega arith in
-      let f : from + i ≡ from = omega arith in
-      let m : n - i ≡ n = omega arith in
-      e ∙ (λ t. copied s (a t) s (f t) (m t))
 
   -- ---- a part that was lent
 

@@ -1,5 +1,6 @@
 -- Document 01's bar and merged bar. Definitions only.
-use Rattle.std.specs.Prelude.{List, [], ◌∷◌, take, ℤ, Float}
+use Rattle.std.specs.Prelude.{List, [], ◌∷◌, take, get_or, ℤ, Float}
+use Rattle.std.specs.Float.{nan}
 use Rattle.bars.specs.declared.Bar.{Bar}
 use Rattle.bars.specs.declared.NewBar.{NewBar}
 
@@ -15,6 +16,20 @@ merged_of k = record { bar = k.bar; elements = take k.count k.elements }
 -- a raw bar as a merged bar of its own
 unfoldable pub own : Bar → Merged
 own b = record { bar = b; elements = b.time ∷ [] }
+
+-- the bar of this time and id that has this row of prices
+abbrev pub bar_with : ℤ → ℤ → List Float → Bar
+bar_with t i p =
+    record {
+      time = t;
+      id = i;
+      «open» = get_or p 0 nan;
+      close = get_or p 1 nan;
+      high = get_or p 2 nan;
+      low = get_or p 3 nan;
+      vol = get_or p 4 nan;
+      amount = get_or p 5 nan;
+    }
 
 -- a bar's row of prices
 unfoldable pub row_of : Bar → List Float

@@ -7,6 +7,7 @@ ghost use Rattle.bars.specs.Gaps.{ratio_of, ratio_by, gap_by, gap_of, gap_number
 use crate::Question;
 
 // The way that a gap goes.
+// Kept: beside machine's Direction, since a gap's side is no stroke's direction, and document 01 names both.
 #[derive(Clone, Copy, Debug, PartialEq, Eq)]
 pub enum Side {
     Up,
@@ -15,6 +16,7 @@ pub enum Side {
 
 // A gap between two neighbours: its lower edge, its higher edge, the ratio, and whether a bar from the pair's second on covered
 // it. The ratio divides by the lower edge: where that is zero or less there is none.
+// Kept: `covered` is a yes or no that is answered: it chooses no step, and no value stands beside it that it tells of.
 #[derive(Clone, Copy)]
 pub struct Gap {
     pub side: Side,
@@ -40,6 +42,7 @@ fn ratio_between(places: usize, low: f64, high: f64) -> Option<f64>
     Some(ratio(places, high, low))
 }
 
+// Kept: `covered` as a bool, since it is put into the gap and chooses no step.
 fn gap_by(side: Side, places: usize, low: f64, high: f64, covered: bool) -> Gap
     ensures { result ≡ gap_by side places low high covered }
 {
@@ -57,15 +60,15 @@ fn gap_by(side: Side, places: usize, low: f64, high: f64, covered: bool) -> Gap
 fn gap_of(places: usize, a: [f64; 6], b: [f64; 6], from_b: &[[f64; 6]]) -> Option<Gap>
     ensures { result ≡ gap_of places a b from_b.now }
 {
-    let high = a[2];
-    let low = a[3];
-    if high < b[3] {
+    let [_, _, high, low, _, _] = a;
+    let [_, _, b_high, b_low, _, _] = b;
+    if high < b_low {
         let covered = from_b.iter().any(|x| x[3] < high);
-        return Some(gap_by(Side::Up, places, high, b[3], covered));
+        return Some(gap_by(Side::Up, places, high, b_low, covered));
     }
-    if b[2] < low {
+    if b_high < low {
         let covered = from_b.iter().any(|x| low < x[2]);
-        return Some(gap_by(Side::Down, places, b[2], low, covered));
+        return Some(gap_by(Side::Down, places, b_high, low, covered));
     }
     None
 }
@@ -85,6 +88,8 @@ pub fn gap_among(
     Ok(gap_of(places, prices[i], prices[i + 1], &prices[i + 1..n]))
 }
 
+// Kept: a number for the kind of gap, since the column of kinds has numbers (docs/DECISIONS.md) and the definitions speak of these.
+#[tactic(auto, unfolding(crate::specs::Gaps::gap_number, crate::specs::Gaps::side_number))]
 fn gap_number(g: Option<Gap>) -> u64
     ensures { result ≡ gap_number g }
 {
@@ -108,13 +113,11 @@ fn gap_values(g: Option<Gap>) -> [f64; 3]
     }
 }
 
+#[tactic(auto, unfolding(crate::specs::Gaps::gap_covered))]
 fn gap_covered(g: Option<Gap>) -> bool
     ensures { result ≡ gap_covered g }
 {
-    match g {
-        Some(gap) => gap.covered,
-        None => false,
-    }
+    g.is_some_and(|gap| gap.covered)
 }
 
 // How many pairs n bars have.
@@ -127,7 +130,8 @@ pub fn pairs(n: usize) -> usize
 // All pairs of the first n bars, oldest first, into lent columns: which kind of gap, its edges and ratio, whether it was covered.
 // Refused by question 4 where there are no n bars, and by question 14 where a column has fewer places than there are pairs, and
 // then nothing is written.
-// Kept: a slice for each column, as a caller without heap lends them.
+// Kept: three slices, as docs/STORES.md has them: this and check_gaps alone take them.
+// Kept: by index, since a pair's gap is covered by any bar behind it, and three columns are written. Their shortest by `min`: no other function asks it.
 pub fn list_gaps(
     places: usize,
     prices: &[[f64; 6]],

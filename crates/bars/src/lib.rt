@@ -5,12 +5,14 @@ mod gaps;
 mod merging;
 mod questions;
 mod refusals;
+mod rows;
 
 pub use gaps::{Gap, Side, gap_among, list_gaps, pairs};
 pub use merging::{new_from_raw, remove_include, remove_include_bar};
 pub use questions::{
-    from_zero, is_price, is_volume, low_at_most_high, prices_in_range, question_after,
-    question_of_bar, time_in_range, volumes_in_range,
+    FIRST_TIME, LAST_TIME, LEAST_PRICE, MOST_PRICE, from_zero, is_price, is_volume,
+    low_at_most_high, prices_in_range, question_after, question_of_bar, time_in_range,
+    volumes_in_range,
 };
 pub use refusals::{Question, number_of};
 

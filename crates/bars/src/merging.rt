@@ -16,6 +16,7 @@ fn within(a: Bar, b: Bar) -> bool
 }
 
 // Whether one's range contains the other's, equal edges counted.
+#[tactic(auto, unfolding(crate::specs::Merging::contains))]
 fn contains(a: Bar, b: Bar) -> bool
     ensures { result ≡ contains a b }
 {
@@ -44,7 +45,8 @@ fn united(k2: Bar, k3: Bar, time: i64, high: f64, low: f64) -> Bar
 }
 
 // k2 and k3 after a lower bar: the larger high and low, and k2's time only if its high is above k3's.
-// Kept: a function for each way, since they differ in the edge that the time goes by too, and each is a rule of document 01.
+// Kept: a function for each way. They differ in the pick of both edges and in the edge that the time goes by, and each is a rule of document 01: one function would
+// have a branch for each of the three.
 fn merged_up(k2: Bar, k3: Bar) -> Bar
     ensures { result ≡ merged_up_bar k2 k3 }
 {
@@ -82,6 +84,7 @@ pub fn remove_include_bar(k1_high: f64, k2: Bar, k3: Bar) -> Option<Bar>
 }
 
 // A raw bar as a merged bar of its own, with one element.
+// Kept: a function and no `From<Bar>`, which would have the same body and the same two promises, and leave unsaid at a call that the bar is a raw one.
 pub fn new_from_raw(b: Bar) -> NewBar
     ensures { (merged_of result ≡ own b) × (result.count ≡ 1) }
 {

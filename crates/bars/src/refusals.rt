@@ -2,30 +2,27 @@
 ghost use Rattle.std.specs.Prelude.{◌≡◌};
 ghost use Rattle.bars.specs.Refusals.{number, asked};
 
-use std::error::Error;
-use std::fmt;
-
-// A question that was answered "no". docs/QUESTIONS.md has the words of each.
+// A question that was answered "no", with its number in the documents. docs/QUESTIONS.md has the words of each.
 #[derive(Clone, Copy, Debug, PartialEq, Eq)]
 pub enum Question {
-    MinimumLength,
-    MostStrokes,
-    Rooms,
-    Sound,
-    Time,
-    Prices,
-    Volumes,
-    LowAtMostHigh,
-    NotEarlier,
-    RawRoom,
-    UnfinishedRoom,
-    StrokeRoom,
-    Exists,
-    OutputRoom,
-    Summary,
-    Places,
-    Record,
-    Digits,
+    MinimumLength = 1,
+    MostStrokes = 2,
+    Rooms = 3,
+    Sound = 4,
+    Time = 5,
+    Prices = 6,
+    Volumes = 7,
+    LowAtMostHigh = 8,
+    NotEarlier = 9,
+    RawRoom = 10,
+    UnfinishedRoom = 11,
+    StrokeRoom = 12,
+    Exists = 13,
+    OutputRoom = 14,
+    Summary = 15,
+    Places = 17,
+    Record = 18,
+    Digits = 19,
 }
 
 impl Question {
@@ -33,36 +30,9 @@ impl Question {
     pub fn number(self) -> u64
         ensures { result ≡ number self }
     {
-        match self {
-            Question::MinimumLength => 1,
-            Question::MostStrokes => 2,
-            Question::Rooms => 3,
-            Question::Sound => 4,
-            Question::Time => 5,
-            Question::Prices => 6,
-            Question::Volumes => 7,
-            Question::LowAtMostHigh => 8,
-            Question::NotEarlier => 9,
-            Question::RawRoom => 10,
-            Question::UnfinishedRoom => 11,
-            Question::StrokeRoom => 12,
-            Question::Exists => 13,
-            Question::OutputRoom => 14,
-            Question::Summary => 15,
-            Question::Places => 17,
-            Question::Record => 18,
-            Question::Digits => 19,
-        }
+        self as u64
     }
 }
-
-impl fmt::Display for Question {
-    fn fmt<W: fmt::Write>(&self, f: &mut fmt::Formatter<W>) -> fmt::Result {
-        write!(f, "question {}", self.number())
-    }
-}
-
-impl Error for Question {}
 
 // The number of the question that was answered "no", and 0 where none was: as the C names and the programs tell it.
 pub fn number_of<T: Copy>(r: Result<T, Question>) -> u64

@@ -3,8 +3,8 @@ use bar_lines::{BarText, GapText, read_bar};
 use bars::{Bar, NewBar};
 use lines::{Output, Unanswered, Words, words_behind};
 use std::alloc::Global;
-use std::fmt;
 use std::io::{self, Write};
+use std::{fmt, str};
 
 // A merged bar's elements, a space before each.
 #[derive(Clone, Copy)]
@@ -31,31 +31,30 @@ fn remove_include(out: &mut Output, k1: Bar, k2: Bar, k3: Bar) -> io::Result<()>
 // Three bars, and nothing behind them.
 fn three_bars(words: &mut Words<'_>) -> Option<(Bar, Bar, Bar)> {
     let bars = (read_bar(words)?, read_bar(words)?, read_bar(words)?);
-    match words.next() {
-        None => Some(bars),
-        Some(_) => None,
-    }
+    words.next().is_none().then_some(bars)
 }
 
 // The rows of prices of the bars behind a line's name, fewer than 64.
+// Kept: beside strokes_of of zones_vectors, which reads bytes until none is left: here words are counted first, since a line of another number of them is bad.
 fn prices_of(
     alloc: Global,
     line: &str,
     words: &mut Words<'_>,
 ) -> Result<Vec<[f64; 6]>, Unanswered> {
-    let behind = words_behind(line);
+    let behind = words_behind(line.as_bytes());
     if behind % 8 != 0 || 64 <= behind / 8 {
         return Err(Unanswered::BadLine);
     }
     let mut prices = Vec::new(alloc);
     for _ in 0..behind / 8 {
         let b = read_bar(words).ok_or(Unanswered::BadLine)?;
-        prices.push([b.open, b.close, b.high, b.low, b.vol, b.amount])?;
+        prices.push(b.prices())?;
     }
     Ok(prices)
 }
 
 // The pairs of neighbours among these rows.
+// Kept: by place, since gap_among is asked for the pair at a place, and answers Err where there is none; so each place below n - 1 is asked.
 fn gaps(out: &mut Output, prices: &[[f64; 6]]) -> io::Result<()> {
     let n = prices.len();
     if n < 2 {
@@ -113,8 +112,8 @@ fn ask_price(x: f64) -> u64 {
     bars::number_of(asked)
 }
 
-// Writes the answer to a line. A space behind its last word is passed over.
-pub fn answer(out: &mut Output, alloc: Global, whole: &str) -> Result<(), Unanswered> {
+// Writes the answer to a question on the bars behind a name. A space behind its last word is passed over.
+fn answer_of_bars(out: &mut Output, alloc: Global, whole: &str) -> Result<(), Unanswered> {
     let line = whole.strip_suffix(' ').unwrap_or(whole);
     let mut words = line.split(' ');
     match words.next() {
@@ -123,14 +122,22 @@ pub fn answer(out: &mut Output, alloc: Global, whole: &str) -> Result<(), Unansw
             remove_include(out, k1, k2, k3)?;
         }
         Some("gaps") => gaps(out, &prices_of(alloc, line, &mut words)?)?,
-        Some("deep") => writeln!(out, "deep{}", Elements(&deep_bar()))?,
+        _ => return Err(Unanswered::BadLine),
+    }
+    Ok(())
+}
+
+// Writes the answer to a line. What stands behind `deep` and `price` is not looked at, so that it need be no text.
+pub fn answer(out: &mut Output, alloc: Global, line: &[u8]) -> Result<(), Unanswered> {
+    match line.split(|b| *b == b' ').next() {
+        Some(b"deep") => writeln!(out, "deep{}", Elements(&deep_bar()))?,
         // 2^30, and the next float.
-        Some("price") => {
+        Some(b"price") => {
             let first = ask_price(1073741824.0);
             let second = ask_price(lines::float_of(4742290407621132289));
             writeln!(out, "price {first} {second}")?;
         }
-        _ => return Err(Unanswered::BadLine),
+        _ => answer_of_bars(out, alloc, str::from_utf8(line)?)?,
     }
     Ok(())
 }

@@ -1,5 +1,5 @@
 -- The batch call's loop: what holds before each bar, how the next one is fed, and what is answered at the end. Assumes nothing.
-use Prim.Native.Nat.{ℕ, zero, suc, ◌+◌, ◌≤◌, ◌<◌, min}
+use Prim.Native.Nat.{ℕ, suc, ◌+◌, ◌≤◌, ◌<◌, min}
 use native.Mathlib.Omega.{arith}
 use native.Mathlib.Nat.{zero-min, min-zero, suc-min-suc}
 use mathlib.Core.Path.{◌≡◌, refl, ap, sym, ◌∙◌, subst}
@@ -11,7 +11,7 @@ use Rattle.std.specs.Prelude.{Some, None, Ok, Err}
 use Rattle.bars.specs.declared.Bar.{Bar}
 use Rattle.bars.specs.declared.refusals.Question.{Question}
 use Rattle.bars.specs.Refusals.{number}
-use Rattle.stores.specs.Stores.{RawStore, MergedStore, zip_with, bar_of, raw_bars}
+use Rattle.stores.specs.Stores.{RawStore, zip_with, bar_of, raw_bars}
 use Rattle.stores.specs.Code.StoreRows.{RoomRaw, bar_at}
 use Rattle.stores.proofs.Columns.{raw_at}
 use Rattle.machine.specs.Feed as M
@@ -20,8 +20,9 @@ use Rattle.machine.specs.Reached.{OneEach}
 use Rattle.machine.proofs.ReachedSound.{reached_sound}
 use Rattle.strokes.specs.declared.Stand.{Stand}
 use Rattle.strokes.specs.StateRead.{settings_of, state_of}
-use Rattle.strokes.specs.Lent.{FractalStore, Stores, stores_of}
-use Rattle.sound.specs.FreshStand.{first_stand, fresh_failed, fresh_by, fresh_of}
+use Rattle.strokes.specs.Lent.{Stores}
+use Rattle.sound.specs.FreshStand.{first_stand, fresh_failed}
+use Rattle.sound.proofs.FreshLaws.{refused-is, begun_is}
 use Rattle.batch.specs.declared.batch.BatchAnswer.{BatchAnswer}
 use Rattle.feed.specs.declared.events.Events.{Events}
 use Rattle.feed.specs.Answers.{events_in, FeedAnswers}
@@ -167,46 +168,28 @@ module _ {s : Stand} {m k : Stores} {bars : RawStore} {n i : ℕ} {e : Events} {
 
 -- ---- the call
 
-by_failed : (n minimum most power ratio : ℕ) (m : Stores) → (fresh_by n minimum most power ratio m).refused ≡ n
-unfolding fresh_by
-by_failed zero minimum most power ratio m = refl
-by_failed (suc n) minimum most power ratio m = refl
-
-by_none : (n minimum most power ratio : ℕ) (m : Stores) → n ≡ 0 → (fresh_by n minimum most power ratio m).stand ≡ first_stand minimum most power ratio m
-unfolding fresh_by first_stand
-by_none zero minimum most power ratio m z = refl
-by_none (suc n) minimum most power ratio m z = absurd (omega arith)
-
-module _ (minimum most power ratio : ℕ) {r r' : RawStore} {u u' k k' : MergedStore} {f f' : FractalStore} (hr : r ≡ r') (hu : u ≡ u') (hk : k ≡ k') (hf : f ≡ f') where
+module _ (minimum most power ratio : ℕ) {m m' : Stores} (e : m ≡ m') where
   -- of stores that are lent to be read
-  pub failed_seen : {n : ℕ} → n ≡ fresh_failed minimum most power ratio (stores_of r u k f) → n ≡ fresh_failed minimum most power ratio (stores_of r' u' k' f')
-  failed_seen e = e ∙ (λ i. fresh_failed minimum most power ratio (stores_of (hr i) (hu i) (hk i) (hf i)))
+  pub failed_seen : {n : ℕ} → n ≡ fresh_failed minimum most power ratio m → n ≡ fresh_failed minimum most power ratio m'
+  failed_seen h = h ∙ ap (fresh_failed minimum most power ratio) e
 
-  pub begun_seen : {s : Stand} → s ≡ first_stand minimum most power ratio (stores_of r u k f) → s ≡ first_stand minimum most power ratio (stores_of r' u' k' f')
-  begun_seen e = e ∙ (λ i. first_stand minimum most power ratio (stores_of (hr i) (hu i) (hk i) (hf i)))
+  pub begun_seen : {s : Stand} → s ≡ first_stand minimum most power ratio m → s ≡ first_stand minimum most power ratio m'
+  begun_seen h = h ∙ ap (first_stand minimum most power ratio) e
 
 module _ (minimum most power ratio : ℕ) (m : Stores) where
-  pub refused-is : (fresh_of minimum most power ratio m).refused ≡ fresh_failed minimum most power ratio m
-  unfolding fresh_of
-  refused-is = by_failed (fresh_failed minimum most power ratio m) minimum most power ratio m
-
-  pub begun_is : fresh_failed minimum most power ratio m ≡ 0 → (fresh_of minimum most power ratio m).stand ≡ first_stand minimum most power ratio m
-  unfolding fresh_of
-  begun_is z = by_none (fresh_failed minimum most power ratio m) minimum most power ratio m z
-
   pub batch-refused : (bars : List Bar) (q : Question) → number q ≡ fresh_failed minimum most power ratio m → BatchIs minimum most power ratio m bars (Err q) m
   batch-refused bars q e =
       record {
-        refused = λ h. record { failed = e ∙ sym refused-is; stores = refl };
-        answered = λ z. absurd (numbered q (e ∙ sym refused-is ∙ z));
+        refused = λ h. record { failed = e ∙ sym (refused-is minimum most power ratio m); stores = refl };
+        answered = λ z. absurd (numbered q (e ∙ sym (refused-is minimum most power ratio m) ∙ z));
       }
 
   pub batch-answered : {m' : Stores} (bars : List Bar) (r : BatchAnswer) (s : Stand) → 0 ≡ fresh_failed minimum most power ratio m → s ≡ first_stand minimum most power ratio m
       → BatchFed s m bars r m' → BatchIs minimum most power ratio m bars (Ok r) m'
   batch-answered {m' = m'} bars r s z e f =
       record {
-        refused = λ nz. absurd (nz (refused-is ∙ sym z));
-        answered = λ h. subst (λ (x : Stand). BatchFed x m bars r m') (e ∙ sym (begun_is (sym z))) f;
+        refused = λ nz. absurd (nz (refused-is minimum most power ratio m ∙ sym z));
+        answered = λ h. subst (λ (x : Stand). BatchFed x m bars r m') (e ∙ sym (begun_is minimum most power ratio m (sym z))) f;
       }
 
 -- as many bars as the shortest column has

@@ -1,5 +1,5 @@
 // A list of bars fed to a fresh analyzer in one call.
-ghost use Rattle.std.specs.Prelude.{◌≡◌, ◌+◌, min, length};
+ghost use Rattle.std.specs.Prelude.{min};
 ghost use Rattle.stores.specs.Stores.{raw_bars};
 ghost use Rattle.stores.specs.Columns.{raw_in};
 ghost use Rattle.strokes.specs.Columns.{written_in, SameColumns};
@@ -12,6 +12,7 @@ ghost use Rattle.batch.specs.Code.BatchSteps.{CanBatch};
 use bars::{Bar, Question};
 use feed::Events;
 use from_fresh::{Counts, clear_after, update_from_fresh};
+use sound::Settings;
 use stores::{MergedColumnsMut, RawColumns, RawColumnsMut};
 use strokes::{FractalColumnsMut, Stand, StoreColumns};
 
@@ -25,6 +26,8 @@ pub struct BatchAnswer {
 }
 
 // One bar more, and the windows that are known to hold no fractal after it.
+// Kept: the stand and four values to be written, here and below: strokes/lent_columns.rt says why no value has them all. `clear` is beside them,
+// since it is kept from bar to bar, while the rows that it speaks of are written.
 fn feed_next(
     stand: &mut Stand,
     raw: &mut RawColumnsMut<'_>,
@@ -49,6 +52,8 @@ fn feed_next(
 }
 
 // The first n bars one by one, from a fresh analyzer.
+// Kept: two answers, since one behind the loop would need the refusal and the place carried out of it.
+// Kept: by place, since the place is what a refusal tells (`fed`), and a bar is read from three columns.
 fn feed_from(
     stand: Stand,
     raw: &mut RawColumnsMut<'_>,
@@ -90,30 +95,17 @@ fn feed_from(
 // A fresh analyzer for the lent stores that is fed the bars in the columns `bars`, as many as the shortest of these has, up to the first that is refused. Where the analyzer itself is refused, nothing is
 // written. Of question 4 it asks for each bar the clause on the newest raw bar: the other clauses hold.
 pub fn feed_all(
-    minimum: usize,
-    most: usize,
-    power: usize,
-    ratio: usize,
+    settings: Settings,
     raw: &mut RawColumnsMut<'_>,
     unfinished: &mut MergedColumnsMut<'_>,
     strokes: &mut MergedColumnsMut<'_>,
     fractals: &mut FractalColumnsMut<'_>,
     bars: RawColumns<'_>,
 ) -> Result<BatchAnswer, Question>
-    ensures batch { BatchIs minimum most power ratio (written_in raw.old unfinished.old strokes.old fractals.old) (raw_bars (raw_in bars.entry)) result (written_in raw.new unfinished.new strokes.new fractals.new) }
+    ensures batch { BatchIs settings.minimum settings.most settings.power settings.ratio (written_in raw.old unfinished.old strokes.old fractals.old) (raw_bars (raw_in bars.entry)) result (written_in raw.new unfinished.new strokes.new fractals.new) }
     ensures same { SameColumns raw.old unfinished.old strokes.old fractals.old raw.new unfinished.new strokes.new fractals.new }
 {
-    let r = raw.seen();
-    let u = unfinished.seen();
-    let k = strokes.seen();
-    let f = fractals.seen();
-    let stores = StoreColumns {
-        raw: r,
-        unfinished: u,
-        strokes: k,
-        fractals: f,
-    };
-    let stand = sound::new_stand(minimum, most, power, ratio, stores)?;
-    let n = bars.times.len().min(bars.ids.len()).min(bars.prices.len());
-    Ok(feed_from(stand, raw, unfinished, strokes, fractals, bars, n))
+    let stores = StoreColumns::of(raw, unfinished, strokes, fractals);
+    let stand = sound::new_stand(settings, stores)?;
+    Ok(feed_from(stand, raw, unfinished, strokes, fractals, bars, bars.rows()))
 }

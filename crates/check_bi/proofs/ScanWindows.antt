@@ -11,7 +11,9 @@ use lib.IntN.{ℤ, pos}
 use lib.Dec.{ltb}
 use lib.Ieee.{Float, nan, inf, fin, lt}
 use borrow.Author.Tests.{ltb-true, ltb-false}
-use Rattle.std.specs.Prelude.{Option, Some, None, IfSome}
+use Rattle.std.specs.Prelude.{Option, Some, None, IfSome, max}
+use Rattle.std.specs.Option.{MatchOption, unwrap_or}
+use Rattle.std.proofs.Math.Nat.{max-eq_left, max-eq_right}
 use Rattle.check_bi.specs.declared.check_fx.Candle.{Candle}
 use Rattle.check_bi.specs.declared.check_fx.Fx.{Fx}
 use Rattle.check_bi.specs.declared.scan.Best.{Best}
@@ -47,51 +49,39 @@ module _ (t : ℕ → Bool) (n i : ℕ) where
   pub none_yet : NoneBetween t n i i
   none_yet = record { from = omega arith; within = λ h. absurd (omega arith); none = λ j h k. absurd (omega arith) }
 
-  pub none-turn : (j : ℕ) → NoneBetween t n i j → j + 2 < n → t j ≡ false → NoneBetween t n i (j + 1)
-  none-turn j w h e =
+  -- what `find` says of the windows from row j on, behind those that were passed
+  pub next_found : (j e : ℕ) (o : Option ℕ) → NoneBetween t n i j → e ≡ n - 2
+      → MatchOption o ((k : ℕ) → j ≤ k → k < e → t k ≡ false) (λ r. (j ≤ r) × (r < e) × (t r ≡ true) × ((k : ℕ) → j ≤ k → k < r → t k ≡ false))
+      → NextIn t n i o
+  next_found j e None w q h = λ k a b. by k a b (ltb k j) refl
+    where
+      by : (k : ℕ) → i ≤ k → k + 2 < n → (b : Bool) → ltb k j ≡ b → t k ≡ false
+      by k a b true x = w.none k a (ltb-true k j x)
+      by k a b false x = h k (ltb-false k j x) (omega arith)
+  next_found j e (Some r) w q h =
       let f = w.from in
-      record { from = omega arith; within = λ g. omega arith; none = λ k g l. by k g l (ltb k j) refl }
+      let a = h.0 in
+      let b = h.1 in
+      record { before = record { from = omega arith; within = λ g. omega arith; none = λ k x y. by k x y (ltb k j) refl }; fits = omega arith; here = h.2 }
     where
-      by : (k : ℕ) → i ≤ k → k < j + 1 → (b : Bool) → ltb k j ≡ b → t k ≡ false
-      by k g l true q = w.none k g (ltb-true k j q)
-      by k g l false q =
-          let x = ltb-false k j q in
-          let y : k ≡ j = omega arith in
-          ap t y ∙ e
-
-  pub none-fits : (j z : ℕ) → NoneBetween t n i j → n < z → i < z → j < z
-  none-fits j z w g l = by (ltb i j) refl
-    where
-      by : (b : Bool) → ltb i j ≡ b → j < z
-      by true q = omega (arith, w.within (ltb-true i j q))
-      by false q = omega (arith, ltb-false i j q)
-
-  pub next_here : (j : ℕ) → NoneBetween t n i j → t j ≡ true → NextWindow t n i j
-  next_here j w e = record { before = w; here = λ h. e }
-
-  pub next-end : (j : ℕ) → NoneBetween t n i j → n ≤ j + 2 → NextWindow t n i j
-  next-end j w e = record { before = w; here = λ h. absurd (omega arith) }
-
-  -- none up to a row, and the next from there on, is the next
-  pub next-behind : (j r : ℕ) → NoneBetween t n i j → NextWindow t n j r → NextWindow t n i r
-  next-behind j r w g =
-      let f = w.from in
-      let l = g.before.from in
-      record {
-        before = record { from = omega arith; within = λ h. ends h (ltb j r) refl; none = λ k x y. by k x y (ltb k j) refl };
-        here = g.here;
-      }
-    where
-      ends : i < r → (b : Bool) → ltb j r ≡ b → r + 1 < n
-      ends h true q = g.before.within (ltb-true j r q)
-      ends h false q =
-          let x = ltb-false j r q in
-          let y = g.before.from in
-          omega (arith, w.within (omega arith))
-
       by : (k : ℕ) → i ≤ k → k < r → (b : Bool) → ltb k j ≡ b → t k ≡ false
-      by k x y true q = w.none k x (ltb-true k j q)
-      by k x y false q = g.before.none k (ltb-false k j q) y
+      by k x y true z = w.none k x (ltb-true k j z)
+      by k x y false z = h.3 k (ltb-false k j z) y
+
+  -- the row to go on from
+  pub next_from : (r e : ℕ) (o : Option ℕ) → NextIn t n i o → e ≡ n - 2 → r ≡ unwrap_or o (max i e) → NextWindow t n i r
+  next_from r e (Some k) h q p = subst (NextWindow t n i) (sym p) (record { before = h.before; here = λ g. h.here })
+  next_from r e None h q p = by (ltb i e) refl
+    where
+      by : (b : Bool) → ltb i e ≡ b → NextWindow t n i r
+      by true x =
+          let a = ltb-true i e x in
+          let m = p ∙ max-eq_right {n = i} {m = e} (omega arith) in
+          record { before = record { from = omega arith; within = λ g. omega arith; none = λ k l g. h k l (omega arith) }; here = λ g. absurd (omega arith) }
+      by false x =
+          let a = ltb-false i e x in
+          let m = p ∙ max-eq_left {n = i} {m = e} (omega arith) in
+          record { before = record { from = omega arith; within = λ g. absurd (omega arith); none = λ k l g. absurd (omega arith) }; here = λ g. absurd (omega arith) }
 
 -- of no window there is nothing to know
 pub clear_none : (ps : List (List Float)) → NoFractals ps 0

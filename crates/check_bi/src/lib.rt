@@ -6,7 +6,7 @@ mod scan;
 mod view;
 mod windows;
 
-pub use check_fx::{Candle, Fx, is_bottom, is_top};
+pub use check_fx::{Candle, Fx, fractal_mark, is_bottom, is_top, mark_of};
 pub use scan::{Best, FoundBi, Scan, found_bi};
 pub use view::View;
 pub use windows::next_row;

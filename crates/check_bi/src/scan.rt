@@ -60,8 +60,8 @@ impl Best {
     {
         if i <= self.end.place + 1 {
             return Best {
-                end: self.end,
                 upto: self.upto + 1,
+                ..self
             };
         }
         self
@@ -77,10 +77,8 @@ impl Scan {
         if !is_candidate(self.start, f) {
             return false;
         }
-        match self.best {
-            None => true,
-            Some(b) => is_beyond(f.mark, f.value(), b.end.value()),
-        }
+        self.best
+            .is_none_or(|b| is_beyond(f.mark, f.value(), b.end.value()))
     }
 
     // The best candidate once f is taken.
@@ -95,10 +93,7 @@ impl Scan {
                 upto: self.count + 1,
             });
         }
-        match self.best {
-            None => None,
-            Some(b) => Some(b.grown(f.place)),
-        }
+        self.best.map(|b| b.grown(f.place))
     }
 
     // A fractal after the first is taken.

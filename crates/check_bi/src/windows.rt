@@ -14,14 +14,12 @@ use machine::Mark;
 fn candle_from(time: i64, row: [f64; 6]) -> Candle
     ensures { result ≡ candle_from time row }
 {
-    Candle {
-        time,
-        high: row[2],
-        low: row[3],
-    }
+    let [_, _, high, low, _, _] = row;
+    Candle { time, high, low }
 }
 
 // The high and low of row i, as a candle without its time.
+// Kept: with 0 for the time, which is_top and is_bottom do not ask. A type of high and low alone would be made of a Candle at each call that has one.
 #[tactic(auto, unfolding(crate::specs::Code::Windows::row_at))]
 fn row_at(ps: &[[f64; 6]], i: usize) -> Candle
     requires { i < length ps.now }
@@ -46,12 +44,13 @@ pub fn next_row(ps: &[[f64; 6]], last: Option<Mark>, i: usize) -> usize
     ensures { NextWindow (taken_at ps.now last) (length ps.now) i result }
 {
     let end = ps.len().saturating_sub(2);
-    for j in i..end {
-        if taken_at(ps, last, j) {
-            return j;
-        }
-    }
-    i.max(end)
+    (i..end)
+        .find(
+            |&j|
+                requires { (j + 2 < length ps.now) × (j < 4294967296) }
+            { taken_at(ps, last, j) },
+        )
+        .unwrap_or(i.max(end))
 }
 
 // Where to look for the first fractal of the view from place lo on, if the first `clear` windows of the store's n rows hold none.
@@ -83,7 +82,7 @@ impl<'a> View<'a> {
 
     // Whether a scan takes the window at place i.
     fn taken_in(self, last: Option<Mark>, i: usize) -> bool
-        requires { i + 2 < places self }
+        requires { (places self < 4294967296) × (i + 2 < places self) }
         ensures { result ≡ taken_at (rows_in self.entry) last i }
     {
         is_taken(last, self.candle(i), self.candle(i + 1), self.candle(i + 2))
@@ -91,23 +90,22 @@ impl<'a> View<'a> {
 
     // The first window from place i on that a scan takes: one that lies in the store's rows, or else one that reaches into the tail.
     fn next_window(self, last: Option<Mark>, i: usize) -> Option<usize>
-        requires { i ≤ places self }
+        requires { (places self < 4294967296) × (i ≤ places self) }
         ensures { NextIn (taken_at (rows_in self.entry) last) (places self.entry) i result }
     {
         let from = next_row(self.prices, last, i);
         let end = self.len().saturating_sub(2);
-        for j in from..end {
-            if self.taken_in(last, j) {
-                return Some(j);
-            }
-        }
-        None
+        (from..end).find(
+            |&j|
+                requires { (places self < 4294967296) × (j + 2 < places self) }
+            { self.taken_in(last, j) },
+        )
     }
 
     // The fractal at place i; its place is counted from lo.
     #[tactic(auto, unfolding(crate::specs::Code::Windows::fx_in))]
     fn fractal(self, lo: usize, i: usize) -> Fx
-        requires { (i + 2 < places self) × (lo ≤ i) }
+        requires { (places self < 4294967296) × (i + 2 < places self) × (lo ≤ i) }
         ensures { result ≡ fx_in (times_in self.entry) (rows_in self.entry) lo i }
     {
         let b = self.candle(i + 1);
@@ -118,19 +116,19 @@ impl<'a> View<'a> {
     // All windows from place lo on. Places are counted from there, and where no fractal is among them there is no scan. A caller that knows that the first
     // `clear` windows of the store's rows hold no fractal says so, and they are not looked at again: a series that only rises would be looked through from
     // its beginning for every bar. 0 is always true.
+    // Kept: `clear` is a number with its fact beside it, here and in the crates above: the store's rows are written while batch keeps the number,
+    // and a value that holds the fact would borrow these rows.
+    // Kept: a loop that says where it goes on, since that follows from the window that was found.
     pub fn scan(self, lo: usize, clear: usize) -> Option<Scan>
-        requires fact_1 { lo ≤ places self }
+        requires fact_1 { (places self < 4294967296) × (lo ≤ places self) }
         requires fact_2 { NoFractals self.prices.now clear }
         ensures value { result ≡ scan_of (drop lo (bars_in self.entry)) }
         ensures small { ScanFits result (places self.entry - lo) }
     {
         let mut seen: Option<Scan> = None;
-        let mut last: Option<Mark> = None;
         let mut from = look_from(self.prices.len(), lo, clear);
-        while let Some(at) = self.next_window(last, from) {
-            let s = take(seen, self.fractal(lo, at));
-            seen = Some(s);
-            last = Some(s.last);
+        while let Some(at) = self.next_window(seen.map(|s| s.last), from) {
+            seen = Some(take(seen, self.fractal(lo, at)));
             from = at + 1;
         }
         seen
@@ -138,7 +136,7 @@ impl<'a> View<'a> {
 
     // check_bi of the source, from place lo on. Places are counted from there.
     pub fn check_bi(self, lo: usize, minimum: usize) -> Option<FoundBi>
-        requires { lo ≤ places self }
+        requires { (places self < 4294967296) × (lo ≤ places self) }
         ensures value { result ≡ found_from minimum lo (bars_in self.entry) }
         ensures small { FoundFits result (places self.entry - lo) }
     {

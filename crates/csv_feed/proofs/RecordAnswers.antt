@@ -19,7 +19,7 @@ use Rattle.feed.specs.declared.events.Events as E
 use Rattle.feed.specs.Answers.{FeedAnswers}
 use Rattle.feed.proofs.FeedLaws.{numbered}
 use Rattle.feed.specs.PortCalls as P
-use Rattle.feed.specs.PortCalls.{FeedIs, PortCalls, added}
+use Rattle.feed.specs.PortCalls.{PortCalls, added}
 use Rattle.csv_feed.specs.RecordAnswered.{RecordAnswers}
 use Rattle.csv_feed.specs.RecordCalls as R
 use Rattle.csv_feed.specs.RecordCalls.{bytes_if, NotFed, RecordFed, RecordCalls, bars_read, RecordsFeed}

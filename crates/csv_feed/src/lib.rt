@@ -22,6 +22,7 @@ pub struct FedRecord {
 
 // The text's first record, which stands at this place of a list of records, from 0, is read and fed. What follows it is not looked at. A list of such calls is one of feed calls, so that it obeys demand 3.
 // Question 4 is asked before the number of a text that cannot be read is told.
+// Kept: the analyzer and four values to be written: strokes/lent_columns.rt says why no value has them all.
 pub fn update_record(
     czsc: &mut Czsc,
     raw: &mut RawColumnsMut<'_>,
@@ -44,20 +45,9 @@ pub fn update_record(
             Ok(FedRecord { events, length })
         }
         Err(unread) => {
-            let r = raw.seen();
-            let u = unfinished.seen();
-            let k = strokes.seen();
-            let f = fractals.seen();
-            let stores = StoreColumns {
-                raw: r,
-                unfinished: u,
-                strokes: k,
-                fractals: f,
-            };
-            if question4::is_sound(czsc.stand, stores) {
-                return Err(unread);
-            }
-            Err(Question::Sound)
+            let stores = StoreColumns::of(raw, unfinished, strokes, fractals);
+            question4::ask(czsc.stand, stores)?;
+            Err(unread)
         }
     }
 }

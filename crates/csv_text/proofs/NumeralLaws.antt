@@ -6,7 +6,7 @@ use mathlib.Core.Bool.{Bool, true, false, cond}
 use mathlib.Core.List.{List, [], ◌∷◌, ◌++◌}
 use mathlib.Core.Option.{Option, none, some}
 use lib.ListN.{length, take, drop}
-use lib.Dec.{eqb}
+use lib.Dec.{eqb, leb}
 use denote.Ref.{Bor}
 use borrow.Author.Tests.{le-leb, lt-leb}
 use Rattle.std.specs.Prelude as Std
@@ -157,7 +157,7 @@ module _ (t : List ℕ) (m : Bool) (ds : List ℕ) (d : ds ≡ digits_at t) wher
       go [] h p = absurd (h refl)
       go (x ∷ l) h p = p
 
-pub sign_some : (t u : List ℕ) (r : Read) → (begins minus_byte t ≡ true) × (u ≡ behind t) → Reads own (whole_read true (digits_at u) (behind_digits u)) r → Reads own (number_at t) r
+sign_some : (t u : List ℕ) (r : Read) → (begins minus_byte t ≡ true) × (u ≡ behind t) → Reads own (whole_read true (digits_at u) (behind_digits u)) r → Reads own (number_at t) r
 unfolding number_at sign_read
 sign_some t u r b h =
     subst (λ (z : Bool). Reads own (sign_read z t) r) (sym b.0) (subst (λ (v : List ℕ). Reads own (whole_read true (digits_at v) (behind_digits v)) r) b.1 h)
@@ -165,6 +165,49 @@ sign_some t u r b h =
 pub sign_none : (t : List ℕ) (r : Read) → begins minus_byte t ≡ false → Reads own (whole_read false (digits_at t) (behind_digits t)) r → Reads own (number_at t) r
 unfolding number_at sign_read
 sign_none t r b h = subst (λ (z : Bool). Reads own (sign_read z t) r) (sym b) h
+
+-- ---- its minus
+
+negated : Option (Number × List ℕ) → Option (Number × List ℕ)
+negated none = none
+negated (some (n, t)) = some (record { minus = true; whole = n.whole; places = n.places }, t)
+
+whole-negated : (ds t : List ℕ) → whole_read true ds t ≡ negated (whole_read false ds t)
+unfolding whole_read point_read places_read negated
+whole-negated [] t = refl
+whole-negated (d ∷ ds) t = pointed (begins point_byte t)
+  where
+    few : (z : Bool) (ps w : List ℕ)
+        → cond z (some (record { minus = true; whole = d ∷ ds; places = ps }, w)) none ≡ negated (cond z (some (record { minus = false; whole = d ∷ ds; places = ps }, w)) none)
+    few false ps w = refl
+    few true ps w = refl
+
+    placed : (ps w : List ℕ) → places_read true (d ∷ ds) ps w ≡ negated (places_read false (d ∷ ds) ps w)
+    placed [] w = refl
+    placed (p ∷ ps) w = few (leb (length (p ∷ ps)) 22) (p ∷ ps) w
+
+    pointed : (z : Bool) → point_read true (d ∷ ds) z t ≡ negated (point_read false (d ∷ ds) z t)
+    pointed false = refl
+    pointed true = placed (digits_at (behind t)) (behind_digits (behind t))
+
+negated_none : (o : Option (Number × List ℕ)) → Reads own o None → Reads own (negated o) None
+unfolding negated
+negated_none none h = h
+negated_none (some (a, t)) h = absurd h
+
+negated_some : (o : Option (Number × List ℕ)) (n : Numeral) (u : Bor (List ℕ)) → Reads own o (Some (n, u)) → Reads own (negated o) (Some (record { minus = true; digits = n.digits; places = n.places }, u))
+unfolding numeral_of negated
+negated_some none n u h = absurd h
+negated_some (some (a, t)) n u h = (ap (λ (k : Numeral). record { minus = true; digits = k.digits; places = k.places }) h.0, h.1)
+
+-- behind a minus
+module _ (t u : List ℕ) (b : (begins minus_byte t ≡ true) × (u ≡ behind t)) where
+  pub minus_none : Reads own (whole_read false (digits_at u) (behind_digits u)) None → Reads own (number_at t) None
+  minus_none h = sign_some t u None b (subst (λ o. Reads own o None) (sym (whole-negated (digits_at u) (behind_digits u))) (negated_none _ h))
+
+  pub minus_some : (n : Numeral) (v : Bor (List ℕ)) → Reads own (whole_read false (digits_at u) (behind_digits u)) (Some (n, v))
+      → Reads own (number_at t) (Some (record { minus = true; digits = n.digits; places = n.places }, v))
+  minus_some n v h = sign_some t u _ b (subst (λ o. Reads own o (Some (record { minus = true; digits = n.digits; places = n.places }, v))) (sym (whole-negated (digits_at u) (behind_digits u))) (negated_some _ n v h))
 
 -- ---- a field
 

@@ -1,11 +1,12 @@
 // Numbers as they are written, at the beginning of a text. What is read comes with the text behind it.
 ghost use Rattle.std.specs.Prelude.{◌≡◌, true, false, MatchOption};
 ghost use Rattle.csv_text.specs.Written.{Number, Field};
-ghost use Rattle.csv_text.specs.Reading.{begins, behind, digits_at, behind_digits, point_read, whole_read, number_at, field_at, next_at, time_at};
+ghost use Rattle.csv_text.specs.Reading.{begins, behind, digits_at, behind_digits, whole_read, number_at, field_at, next_at, time_at};
 ghost use Rattle.csv_text.specs.Code.Numerals.{with_digit, Reads, PointRead};
 
 // A number: whether it has a minus, its digits as a whole number, and how many of them stand behind the point. The whole number
 // stops at 10^15, which has a digit too many.
+// Kept: `minus` is a yes or no, as std tells a sign (is_sign_negative): with an enum of two signs each reader would compare what it now asks.
 #[derive(Clone, Copy)]
 pub struct Numeral {
     pub minus: bool,
@@ -40,13 +41,13 @@ fn split_digits(text: &[u8]) -> (&[u8], &[u8])
     text.split_at(n)
 }
 
-// The number whose digits before the point make n, and end where the text begins.
-fn number_behind(text: &[u8], minus: bool, n: u64) -> Option<(Numeral, &[u8])>
-    ensures { PointRead text.now minus n result }
+// The number without a sign whose digits before the point make n, and end where the text begins.
+fn number_behind(text: &[u8], n: u64) -> Option<(Numeral, &[u8])>
+    ensures { PointRead text.now false n result }
 {
     let Some(text) = behind(text, b'.') else {
         let whole = Numeral {
-            minus,
+            minus: false,
             digits: n,
             places: 0,
         };
@@ -57,34 +58,38 @@ fn number_behind(text: &[u8], minus: bool, n: u64) -> Option<(Numeral, &[u8])>
     if places == 0 || 22 < places {
         return None;
     }
-    let digits = digits.iter().fold(n, |n, b| with_digit(n, *b));
     let number = Numeral {
-        minus,
-        digits,
+        minus: false,
+        digits: digits.iter().fold(n, |n, b| with_digit(n, *b)),
         places,
     };
     Some((number, rest))
 }
 
-// The number whose digits begin the text.
-fn number_of(text: &[u8], minus: bool) -> Option<(Numeral, &[u8])>
-    ensures { Reads (λ (n : Number). n) (whole_read minus (digits_at text.now) (behind_digits text.now)) result }
+// The number whose digits begin the text, without a sign.
+fn unsigned_at(text: &[u8]) -> Option<(Numeral, &[u8])>
+    ensures { Reads (λ (n : Number). n) (whole_read false (digits_at text.now) (behind_digits text.now)) result }
 {
     let (digits, rest) = split_digits(text);
     if digits.is_empty() {
         return None;
     }
     let n = digits.iter().fold(0, |n, b| with_digit(n, *b));
-    number_behind(rest, minus, n)
+    number_behind(rest, n)
 }
 
 fn number_at(text: &[u8]) -> Option<(Numeral, &[u8])>
     ensures { Reads (λ (n : Number). n) (number_at text.now) result }
 {
-    match behind(text, b'-') {
-        Some(rest) => number_of(rest, true),
-        None => number_of(text, false),
-    }
+    let Some(unsigned) = behind(text, b'-') else {
+        return unsigned_at(text);
+    };
+    let (number, rest) = unsigned_at(unsigned)?;
+    let negative = Numeral {
+        minus: true,
+        ..number
+    };
+    Some((negative, rest))
 }
 
 // A number, in quotes or without.
@@ -107,6 +112,7 @@ pub fn next_at(text: &[u8]) -> Option<(Numeral, &[u8])>
 }
 
 // The first field: times are whole seconds, so it has no point.
+// Kept: an if. `filter` would be handed the pair by reference and take it apart again for the number, which has a name here.
 pub fn time_at(text: &[u8]) -> Option<(Numeral, &[u8])>
     ensures { Reads (λ (f : Field). f.number) (time_at text.now) result }
 {

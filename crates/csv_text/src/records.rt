@@ -1,7 +1,7 @@
 // The first record of a text, as fields and as a bar.
 ghost use Rattle.std.specs.Prelude.{◌≡◌};
 ghost use Rattle.csv_text.specs.Reading.{record_at, end_at};
-ghost use Rattle.csv_text.specs.Records.{read_text, read_record, unless_failed, import_of};
+ghost use Rattle.csv_text.specs.Records.{read_text, read_record, import_of};
 ghost use Rattle.csv_text.specs.Claims.{ReadsBack, OneDivision};
 ghost use Rattle.csv_text.specs.Code.Fields.{ReadsRecord, ReadsEnd, few_digits_in, bar_in, FieldsFit};
 
@@ -35,6 +35,7 @@ fn end_at(text: &[u8]) -> Option<&[u8]>
 fn fields_at(text: &[u8]) -> Option<(Fields, usize)>
     ensures { ReadsRecord (record_at text.now) result }
 {
+    // Kept: the text behind each field by name, since the contracts speak of it: a reader that holds it would have to tell it before and after each field.
     let (time, rest) = time_at(text)?;
     let (open, rest) = next_at(rest)?;
     let (close, rest) = next_at(rest)?;
@@ -85,6 +86,8 @@ fn bar_of(f: Fields, id: i32) -> Bar
 pub fn bar_of_text(text: &[u8], place: usize) -> Result<(Bar, usize), Question>
     ensures { (import_of result ≡ read_text place text.now) × ReadsBack × OneDivision }
 {
+    // Kept: two let-elses. Tried, for a few minutes: `?` behind `map_err` and behind `ok_or`. What was read is then told of ok_or's value, and the refusal of
+    // a closure's, and the five answers that take both from a let-else did not close.
     let Ok(id) = i32::try_from(place) else {
         return Err(Question::Record);
     };

@@ -7,6 +7,8 @@ use crate::numerals::Numeral;
 
 // The float nearest the number: one division of two floats that are exact, so that it rounds once. The sign comes afterwards, and
 // a zero has none.
+// Kept: that the digits are few (below 10^15) is asked here and in seconds_of. A type of numerals that have few would be Numeral again, made of each of
+// a record's seven.
 pub fn value_of(n: Numeral) -> f64
     requires { (n.digits < 1000000000000000) × (n.places ≤ 22) }
     ensures { (result ≡ nearest_of n.minus n.digits n.places) × OneDivision }

@@ -17,6 +17,7 @@ use lines::Unanswered;
 const MOST: usize = 2200000;
 
 // Where the input or the output fails, the answers end there.
+// Kept: a main in each *_vectors program: they share answer_lines, and here stand this one's answer, its limit and what it says where there is no answer.
 fn main(rt: HostRuntime) {
     let alloc = rt.alloc();
     let _ = lines::answer_lines(

@@ -10,12 +10,10 @@ use borrow.Author.Tests.{le-leb, lt-leb, leb-true}
 use Rattle.bars.specs.declared.Bar.{Bar}
 use Rattle.machine.specs.FeedQuestions.{or_else}
 use Rattle.strokes.specs.declared.Stand.{Stand}
-use Rattle.stores.specs.Stores.{RawStore, MergedStore}
-use Rattle.strokes.specs.Lent.{FractalStore, Stores, stores_of}
+use Rattle.strokes.specs.Lent.{Stores}
 use Rattle.strokes.specs.Packed.{packed, numbers_with, counts_with, rows_there}
 use Rattle.strokes.proofs.PackedRows.{there}
-use Rattle.sound.specs.declared.fresh_stand.FreshAnswer.{FreshAnswer}
-use Rattle.sound.specs.FreshStand.{fresh_of}
+use Rattle.sound.specs.FreshStand.{FreshAnswer, fresh_of}
 use Rattle.sound.specs.StandSound.{IsSound}
 use Rattle.question4.specs.Question4.{question4}
 use Rattle.question4.proofs.Question4Passed.{is-sound}
@@ -31,14 +29,13 @@ use Rattle.czsc_c.specs.Handed.{stand_handed, fresh_handed_if, fresh_handed, fai
 
 -- ---- of stores that are lent to be read
 
-module _ {r r' : RawStore} {u u' k k' : MergedStore} {f f' : FractalStore} (hr : r ≡ r') (hu : u ≡ u') (hk : k ≡ k') (hf : f ≡ f') where
-  pub before_seen : (ns cs es : List (List ℕ)) {n : ℕ} → n ≡ failed_before ns cs es (stores_of r u k f) → n ≡ failed_before ns cs es (stores_of r' u' k' f')
-  before_seen ns cs es e = e ∙ (λ i. failed_before ns cs es (stores_of (hr i) (hu i) (hk i) (hf i)))
+module _ {m m' : Stores} (e : m ≡ m') where
+  pub before_seen : (ns cs es : List (List ℕ)) {n : ℕ} → n ≡ failed_before ns cs es m → n ≡ failed_before ns cs es m'
+  before_seen ns cs es h = h ∙ ap (failed_before ns cs es) e
 
-  pub first_seen : (minimum most power ratio : ℕ) (ns cs ss : List (List ℕ)) {n : ℕ} → n ≡ failed_first (fresh_of minimum most power ratio (stores_of r u k f)) ns cs ss
-      → n ≡ failed_first (fresh_of minimum most power ratio (stores_of r' u' k' f')) ns cs ss
-  first_seen minimum most power ratio ns cs ss e =
-      e ∙ (λ i. failed_first (fresh_of minimum most power ratio (stores_of (hr i) (hu i) (hk i) (hf i))) ns cs ss)
+  pub first_seen : (minimum most power ratio : ℕ) (ns cs ss : List (List ℕ)) {n : ℕ} → n ≡ failed_first (fresh_of minimum most power ratio m) ns cs ss
+      → n ≡ failed_first (fresh_of minimum most power ratio m') ns cs ss
+  first_seen minimum most power ratio ns cs ss h = h ∙ ap (λ (k : Stores). failed_first (fresh_of minimum most power ratio k) ns cs ss) e
 
 -- ---- a fresh analyzer
 

@@ -9,17 +9,24 @@ use Rattle.machine.specs.FeedQuestions.{or_else}
 use Rattle.strokes.specs.declared.Stand.{Stand}
 use Rattle.strokes.specs.Lent.{Stores}
 use Rattle.strokes.specs.Packed.{packed, numbers_with, counts_with, rows_there}
-use Rattle.sound.specs.declared.fresh_stand.FreshAnswer.{FreshAnswer}
-use Rattle.sound.specs.FreshStand.{fresh_of}
+use Rattle.sound.specs.FreshStand.{FreshAnswer, fresh_of}
 use Rattle.question4.specs.Question4.{question4}
 use Rattle.feed.specs.declared.events.Events.{Events}
 use Rattle.feed.specs.Answers.{events_of}
 use Rattle.feed.specs.PortCalls.{FeedIs}
 use Rattle.batch.specs.declared.batch.BatchAnswer.{BatchAnswer}
 use Rattle.batch.specs.BatchCalls.{failed_of, BatchIs}
+use Rattle.czsc_c.specs.declared.handed.StandRows.{StandRows}
 
 abbrev pub bar_with : ℤ → ℤ → Float → Float → Float → Float → Float → Float → Bar
 bar_with t i o c h l v a = record { time = t; id = i; «open» = o; close = c; high = h; low = l; vol = v; amount = a }
+
+-- the caller's own rows are there yet, as many as before
+pub record SameRows (a b : StandRows) : Type 0 where
+  pub numbers : b.numbers.ghost_name ≡ a.numbers.ghost_name
+  pub counts : b.counts.ghost_name ≡ a.counts.ghost_name
+  pub numbers_room : length b.numbers.now ≡ length a.numbers.now
+  pub counts_room : length b.counts.now ≡ length a.counts.now
 
 -- a number, and the rows of a stand then
 pub record StandHanded : Type 0 where

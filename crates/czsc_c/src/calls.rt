@@ -1,7 +1,8 @@
 // The calls. A fresh analyzer and a feed that answer a number above 0 leave all lent memory as it was, and so does a list of bars that fails questions 1, 2, 17, 3 or 14; behind these it hands over
 // stand and sums whatever it answers. Rows that are missing are answered by a number too: 4 where no stand can be read, 14 where an answer has no place.
 // Kept: the columns one by one, and numbers for refusals, since a C program calls: each call makes values of the columns and calls a function over these.
-ghost use Rattle.std.specs.Prelude.{◌≡◌, ◌≤◌, length, IfOk};
+// Kept: in that function four values to be written: strokes/lent_columns.rt says why no value has them all.
+ghost use Rattle.std.specs.Prelude.{◌≡◌, IfOk};
 ghost use Rattle.bars.specs.Refusals.{asked};
 ghost use Rattle.stores.specs.Stores.{raw_bars};
 ghost use Rattle.stores.specs.Columns.{raw_in};
@@ -11,31 +12,29 @@ ghost use Rattle.strokes.specs.Lent.{before, after, stores_seen};
 ghost use Rattle.strokes.specs.Columns.{stores_in, written_in, SameColumns};
 ghost use Rattle.strokes.specs.Packed.{packed};
 ghost use Rattle.sound.specs.FreshStand.{fresh_of};
-ghost use Rattle.czsc_c.specs.Handed.{bar_with, stand_handed, fresh_handed, failed_before, UpdateHanded, failed_first, BatchHanded};
+ghost use Rattle.czsc_c.specs.Handed.{bar_with, stand_handed, fresh_handed, failed_before, UpdateHanded, failed_first, BatchHanded, SameRows};
 
-use crate::handed::{hand_over, hand_over_all};
+use crate::handed::{StandRows, hand_over, hand_over_all};
 use bars::{Bar, Question, number_of};
+use sound::Settings;
 use stores::{MergedColumns, MergedColumnsMut, RawColumns, RawColumnsMut};
-use strokes::{FractalColumns, FractalColumnsMut, Stand, StoreColumns, pack, rows_there, unpack};
+use strokes::{FractalColumns, FractalColumnsMut, Stand, StoreColumns, pack, unpack};
 
 // ---- a fresh analyzer
 
 fn fresh_packed(
-    minimum: usize,
-    most: usize,
-    power: usize,
-    ratio: usize,
-    numbers: &mut [[usize; 10]],
-    counts: &mut [[u32; 65]],
+    settings: Settings,
+    rows: &mut StandRows<'_>,
     stores: StoreColumns<'_>,
 ) -> Result<(), Question>
-    ensures { stand_handed (asked result) numbers.new counts.new ≡ fresh_handed (fresh_of minimum most power ratio (stores_in stores.entry)) numbers.old counts.old }
+    ensures handed { stand_handed (asked result) rows.new.numbers.now rows.new.counts.now ≡ fresh_handed (fresh_of settings.minimum settings.most settings.power settings.ratio (stores_in stores.entry)) rows.old.numbers.now rows.old.counts.now }
+    ensures same { SameRows rows.old rows.new }
 {
-    let stand = sound::new_stand(minimum, most, power, ratio, stores)?;
-    if !rows_there(numbers, counts) {
+    let stand = sound::new_stand(settings, stores)?;
+    if !rows.there() {
         return Err(Question::OutputRoom);
     }
-    pack(stand, numbers, counts);
+    pack(stand, rows.numbers, rows.counts);
     Ok(())
 }
 
@@ -95,37 +94,40 @@ pub extern "C" fn czsc_fresh(
         strokes,
         fractals,
     };
-    number_of(fresh_packed(minimum, most, power, ratio, numbers, counts, stores))
+    let settings = Settings {
+        minimum,
+        most,
+        power,
+        ratio,
+    };
+    let mut rows = StandRows { numbers, counts };
+    number_of(fresh_packed(settings, &mut rows, stores))
 }
 
 // ---- a feed
 
 // The stand that a bar is fed to: 4 where no stand is there or it is not sound, 14 where its answer has no place.
 fn packed_stand(
-    numbers: &[[usize; 10]],
-    counts: &[[u32; 65]],
+    rows: &StandRows<'_>,
     events: &[[u64; 3]],
     stores: StoreColumns<'_>,
 ) -> Result<Stand, Question>
-    ensures failed { asked result ≡ failed_before numbers.now counts.now events.now (stores_in stores.entry) }
-    ensures stand { IfOk result (λ (s : Stand). s ≡ packed numbers.now counts.now) }
+    ensures failed { asked result ≡ failed_before rows.now.numbers.now rows.now.counts.now events.now (stores_in stores.entry) }
+    ensures stand { IfOk result (λ (s : Stand). s ≡ packed rows.now.numbers.now rows.now.counts.now) }
 {
-    if !rows_there(numbers, counts) {
+    if !rows.there() {
         return Err(Question::Sound);
     }
-    let stand = unpack(numbers, counts);
-    if !question4::is_sound(stand, stores) {
-        return Err(Question::Sound);
-    }
-    if events.len() < 1 {
+    let stand = unpack(rows.numbers, rows.counts);
+    question4::ask(stand, stores)?;
+    if events.is_empty() {
         return Err(Question::OutputRoom);
     }
     Ok(stand)
 }
 
 fn update_packed(
-    numbers: &mut [[usize; 10]],
-    counts: &mut [[u32; 65]],
+    rows: &mut StandRows<'_>,
     events: &mut [[u64; 3]],
     raw: &mut RawColumnsMut<'_>,
     unfinished: &mut MergedColumnsMut<'_>,
@@ -133,22 +135,14 @@ fn update_packed(
     fractals: &mut FractalColumnsMut<'_>,
     b: Bar,
 ) -> Result<(), Question>
-    ensures handed { UpdateHanded numbers.old counts.old events.old (written_in raw.old unfinished.old strokes.old fractals.old) b (asked result) numbers.new counts.new events.new (written_in raw.new unfinished.new strokes.new fractals.new) }
+    ensures handed { UpdateHanded rows.old.numbers.now rows.old.counts.now events.old (written_in raw.old unfinished.old strokes.old fractals.old) b (asked result) rows.new.numbers.now rows.new.counts.now events.new (written_in raw.new unfinished.new strokes.new fractals.new) }
+    ensures same_rows { SameRows rows.old rows.new }
     ensures same { SameColumns raw.old unfinished.old strokes.old fractals.old raw.new unfinished.new strokes.new fractals.new }
 {
-    let r = raw.seen();
-    let u = unfinished.seen();
-    let k = strokes.seen();
-    let f = fractals.seen();
-    let stores = StoreColumns {
-        raw: r,
-        unfinished: u,
-        strokes: k,
-        fractals: f,
-    };
-    let mut stand = packed_stand(numbers, counts, events, stores)?;
+    let stores = StoreColumns::of(raw, unfinished, strokes, fractals);
+    let mut stand = packed_stand(rows, events, stores)?;
     let fed = feed::feed_sound(&mut stand, raw, unfinished, strokes, fractals, b, 0);
-    hand_over(stand, fed, numbers, counts, events)
+    hand_over(stand, fed, rows, events)
 }
 
 // A feed of one bar to the packed stand: 4, 14, then questions 5 to 12.
@@ -216,9 +210,9 @@ pub extern "C" fn czsc_update_bar(
         vol,
         amount,
     };
+    let mut rows = StandRows { numbers, counts };
     number_of(update_packed(
-        numbers,
-        counts,
+        &mut rows,
         events,
         &mut raw,
         &mut unfinished,
@@ -231,35 +225,29 @@ pub extern "C" fn czsc_update_bar(
 // ---- a list of bars
 
 // What a list of bars is refused with before the first one is looked at: questions 1, 2, 17 and 3, and 14 where stand or sums have no place.
+// Kept: new_stand and the test for rows as in fresh_packed: a function of these two would have a contract that is longer than both.
 fn ask_first(
-    minimum: usize,
-    most: usize,
-    power: usize,
-    ratio: usize,
-    numbers: &[[usize; 10]],
-    counts: &[[u32; 65]],
+    settings: Settings,
+    rows: &StandRows<'_>,
     sums: &[[u64; 4]],
     stores: StoreColumns<'_>,
 ) -> Result<(), Question>
-    ensures { asked result ≡ failed_first (fresh_of minimum most power ratio (stores_in stores.entry)) numbers.now counts.now sums.now }
+    ensures { asked result ≡ failed_first (fresh_of settings.minimum settings.most settings.power settings.ratio (stores_in stores.entry)) rows.now.numbers.now rows.now.counts.now sums.now }
 {
-    let _ = sound::new_stand(minimum, most, power, ratio, stores)?;
-    if !rows_there(numbers, counts) {
+    let _ = sound::new_stand(settings, stores)?;
+    if !rows.there() {
         return Err(Question::OutputRoom);
     }
-    if sums.len() < 1 {
+    if sums.is_empty() {
         return Err(Question::OutputRoom);
     }
     Ok(())
 }
 
+// Kept: a match of what was refused: `map_or(Ok(()), Err)` would have the call that went well as the default, before the refusal.
 fn feed_packed(
-    minimum: usize,
-    most: usize,
-    power: usize,
-    ratio: usize,
-    numbers: &mut [[usize; 10]],
-    counts: &mut [[u32; 65]],
+    settings: Settings,
+    rows: &mut StandRows<'_>,
     sums: &mut [[u64; 4]],
     raw: &mut RawColumnsMut<'_>,
     unfinished: &mut MergedColumnsMut<'_>,
@@ -267,24 +255,14 @@ fn feed_packed(
     fractals: &mut FractalColumnsMut<'_>,
     bars: RawColumns<'_>,
 ) -> Result<(), Question>
-    ensures handed { BatchHanded minimum most power ratio numbers.old counts.old sums.old (written_in raw.old unfinished.old strokes.old fractals.old) (raw_bars (raw_in bars.entry)) (asked result) numbers.new counts.new sums.new (written_in raw.new unfinished.new strokes.new fractals.new) }
+    ensures handed { BatchHanded settings.minimum settings.most settings.power settings.ratio rows.old.numbers.now rows.old.counts.now sums.old (written_in raw.old unfinished.old strokes.old fractals.old) (raw_bars (raw_in bars.entry)) (asked result) rows.new.numbers.now rows.new.counts.now sums.new (written_in raw.new unfinished.new strokes.new fractals.new) }
+    ensures same_rows { SameRows rows.old rows.new }
     ensures same { SameColumns raw.old unfinished.old strokes.old fractals.old raw.new unfinished.new strokes.new fractals.new }
 {
-    let r = raw.seen();
-    let u = unfinished.seen();
-    let k = strokes.seen();
-    let f = fractals.seen();
-    let stores = StoreColumns {
-        raw: r,
-        unfinished: u,
-        strokes: k,
-        fractals: f,
-    };
-    ask_first(minimum, most, power, ratio, numbers, counts, sums, stores)?;
-    let fed = batch::feed_all(
-        minimum, most, power, ratio, raw, unfinished, strokes, fractals, bars,
-    )?;
-    hand_over_all(fed, numbers, counts, sums);
+    let stores = StoreColumns::of(raw, unfinished, strokes, fractals);
+    ask_first(settings, rows, sums, stores)?;
+    let fed = batch::feed_all(settings, raw, unfinished, strokes, fractals, bars)?;
+    hand_over_all(fed, rows, sums);
     match fed.refused {
         None => Ok(()),
         Some(q) => Err(q),
@@ -350,13 +328,16 @@ pub extern "C" fn czsc_feed_all(
         ids: bi,
         prices: bp,
     };
-    number_of(feed_packed(
+    let settings = Settings {
         minimum,
         most,
         power,
         ratio,
-        numbers,
-        counts,
+    };
+    let mut rows = StandRows { numbers, counts };
+    number_of(feed_packed(
+        settings,
+        &mut rows,
         sums,
         &mut raw,
         &mut unfinished,

@@ -3,21 +3,21 @@ use Prim.Native.Nat.{ℕ}
 use mathlib.Core.Bool.{Bool, true, false, ◌&&◌}
 use mathlib.Core.Path.{◌≡◌, refl, ap, sym, subst, ◌∙◌}
 use native.Mathlib.Omega.{arith}
+use Rattle.std.specs.Prelude.{Result, Ok, Err}
 use Rattle.bars.specs.declared.Bar.{Bar}
 use Rattle.bars.specs.declared.refusals.Question.{Question}
-use Rattle.bars.specs.declared.refusals.Question.TheVariants.{MinimumLength, MostStrokes, Rooms, Sound, Time, Prices, Volumes, LowAtMostHigh, NotEarlier, RawRoom, UnfinishedRoom, StrokeRoom, Exists, OutputRoom, Summary, Places, Record, Digits}
 use Rattle.bars.specs.Refusals.{number}
 use Rattle.machine.specs.FeedQuestions.{or_else, failed_after4}
 use Rattle.strokes.specs.declared.Stand.{Stand}
 use Rattle.strokes.specs.StateRead.{settings_of, state_of, sized}
-use Rattle.stores.specs.Stores.{RawStore, MergedStore}
-use Rattle.strokes.specs.Lent.{FractalStore, Stores, stores_of}
+use Rattle.strokes.specs.Lent.{Stores}
 use Rattle.machine.specs.Soundness.{sound}
 use Rattle.sound.specs.StandSound.{IsSound, stores_sound}
 use Rattle.question4.specs.Question4.{question4}
 use Rattle.feed.specs.PortCalls.{failed_by, FeedIs}
 use Rattle.asking.specs.declared.questions.Asked.{Asked}
 use Rattle.asking.specs.Code.Asked.{AskedOf}
+pub use Rattle.asking.proofs.AskLaws.{numbered}
 use Rattle.writing.specs.declared.Wrote.{Wrote}
 use Rattle.writing.specs.Code.Written.{CanWrite, IsWritten}
 use Rattle.arith.proofs.Tests.{yes}
@@ -65,43 +65,18 @@ module _ (s : Stand) (m : Stores) (b : Bar) where
         accepted = λ z. (k.state, k.events, k.settings, k.sizes);
       }
 
+  -- what the asking answered
+  pub asked-no : (q : Question) → IsSound s m → AskedOf (settings_of s) (state_of s m) b (Err q) → FeedIs s m b (number q) 0 0 0 s m
+  asked-no q h a = feed-refused (number q) h a.failed (numbered q)
+
   -- what the writing asks
-  pub can_write : (a : Asked) → IsSound s m → AskedOf (settings_of s) (state_of s m) b a → a.failed ≡ 0 → CanWrite s m b a.later a.plan
-  can_write a h e z = record { sound = h; passes = sym e.failed ∙ z; later-is = e.later z; plan-is = e.plan z }
+  pub can_write : (a : Asked) → IsSound s m → AskedOf (settings_of s) (state_of s m) b (Ok a) → CanWrite s m b a.later a.plan
+  can_write a h e = record { sound = h; passes = sym e.failed; later-is = e.later; plan-is = e.plan }
 
-  pub feed_yes : (a : Asked) (w : Wrote) (m' : Stores) → IsSound s m → AskedOf (settings_of s) (state_of s m) b a → a.failed ≡ 0 → IsWritten s m b w m'
-      → FeedIs s m b 0 w.made w.broken w.shed w.stand m'
-  feed_yes a w m' h e z k = feed-accepted w m' h (sym e.failed ∙ z) k
-
--- a question has a number
-pub numbered : (q : Question) → number q ≡ 0 → ⊥
-numbered MinimumLength e = absurd (omega arith)
-numbered MostStrokes e = absurd (omega arith)
-numbered Rooms e = absurd (omega arith)
-numbered Sound e = absurd (omega arith)
-numbered Time e = absurd (omega arith)
-numbered Prices e = absurd (omega arith)
-numbered Volumes e = absurd (omega arith)
-numbered LowAtMostHigh e = absurd (omega arith)
-numbered NotEarlier e = absurd (omega arith)
-numbered RawRoom e = absurd (omega arith)
-numbered UnfinishedRoom e = absurd (omega arith)
-numbered StrokeRoom e = absurd (omega arith)
-numbered Exists e = absurd (omega arith)
-numbered OutputRoom e = absurd (omega arith)
-numbered Summary e = absurd (omega arith)
-numbered Places e = absurd (omega arith)
-numbered Record e = absurd (omega arith)
-numbered Digits e = absurd (omega arith)
+  pub feed_yes : (a : Asked) (w : Wrote) (m' : Stores) → IsSound s m → AskedOf (settings_of s) (state_of s m) b (Ok a) → IsWritten s m b w m' → FeedIs s m b 0 w.made w.broken w.shed w.stand m'
+  feed_yes a w m' h e k = feed-accepted w m' h (sym e.failed) k
 
 -- ---- of stores that are lent to be read
 
-module _ {r r' : RawStore} {u u' k k' : MergedStore} {f f' : FractalStore} (hr : r ≡ r') (hu : u ≡ u') (hk : k ≡ k') (hf : f ≡ f') where
-  seen_stores : stores_of r u k f ≡ stores_of r' u' k' f'
-  seen_stores = λ i. stores_of (hr i) (hu i) (hk i) (hf i)
-
-  pub asked_seen : (s : Stand) (b : Bar) (a : Asked) → AskedOf (settings_of s) (state_of s (stores_of r u k f)) b a → AskedOf (settings_of s) (state_of s (stores_of r' u' k' f')) b a
-  asked_seen s b a h = subst (λ (m : Stores). AskedOf (settings_of s) (state_of s m) b a) seen_stores h
-
-  pub sound_seen : (s : Stand) (t : Bool) → t ≡ question4 s (stores_of r u k f) → question4 s (stores_of r' u' k' f') ≡ t
-  sound_seen s t h = sym (h ∙ ap (question4 s) seen_stores)
+pub asked_seen : (s : Stand) (b : Bar) (a : Result Asked Question) {m m' : Stores} → m ≡ m' → AskedOf (settings_of s) (state_of s m) b a → AskedOf (settings_of s) (state_of s m') b a
+asked_seen s b a e h = subst (λ (m : Stores). AskedOf (settings_of s) (state_of s m) b a) e h

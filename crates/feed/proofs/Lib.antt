@@ -8,4 +8,3 @@ pub mod PortReached
 pub mod PortRaw
 pub mod PortDemand3
 pub mod FeedLaws
-pub mod AskedNumber

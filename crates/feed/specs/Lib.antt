@@ -2,4 +2,3 @@ pub mod PortCalls
 pub mod StrokesLeft
 pub mod PortClaims
 pub mod Answers
-pub mod Code

@@ -13,6 +13,7 @@ pub struct Events {
 
 impl Events {
     // Of no feed.
+    // Kept: no derived Default, which would say of each number by itself that it is 0: this contract gives the three as one record.
     pub fn none() -> Events
         ensures { result ≡ record { made = 0; broken = 0; shed = 0 } }
     {

@@ -1,12 +1,9 @@
 // Feed: update_bar of the source. Every question is asked before anything is written, so that a refusal leaves every cell as it was.
-ghost use Rattle.std.specs.Prelude.{◌≡◌};
-ghost use Rattle.bars.specs.Refusals.{number};
 ghost use Rattle.strokes.specs.Columns.{written_in, SameColumns};
 ghost use Rattle.sound.specs.StandSound.{IsSound};
 ghost use Rattle.check_bi.specs.Code.Windows.{NoFractals};
 ghost use Rattle.feed.specs.Answers.{FeedAnswers};
 ghost use Rattle.feed.specs.PortClaims.{PortDemand3};
-ghost use Rattle.feed.specs.Code.AskedNumber.{OfFeed};
 
 use crate::Events;
 use bars::{Bar, Question};
@@ -19,26 +16,11 @@ pub struct Czsc {
     pub stand: Stand,
 }
 
-// The question of this number, among those that a feed asks after question 4.
-fn question_of(failed: u64) -> Question
-    requires { OfFeed failed }
-    ensures { number result ≡ failed }
-{
-    match failed {
-        5 => Question::Time,
-        6 => Question::Prices,
-        7 => Question::Volumes,
-        8 => Question::LowAtMostHigh,
-        9 => Question::NotEarlier,
-        10 => Question::RawRoom,
-        11 => Question::UnfinishedRoom,
-        _ => Question::StrokeRoom,
-    }
-}
-
 // The feed of a stand that question 4 has passed: questions 5 to 12, then the step. Only for callers that prove it sound: those that have just asked question 4 (update_bar, the C names), and
 // from_fresh, whose stands come from a fresh analyzer and which asks the one clause that can fail there. The first `clear` windows of the unfinished bars hold no
 // fractal: a caller that knows of none says 0.
+// Kept: four values to be written, here and below, as StoreColumns (strokes) says. `clear` is a number with its claim in `requires`: the rows that it speaks of
+// are lent to be written, so no value can hold both.
 pub fn feed_sound(
     stand: &mut Stand,
     raw: &mut RawColumnsMut<'_>,
@@ -53,17 +35,8 @@ pub fn feed_sound(
     ensures feed { FeedAnswers stand.old (written_in raw.old unfinished.old strokes.old fractals.old) b result stand.new (written_in raw.new unfinished.new strokes.new fractals.new) }
     ensures same { SameColumns raw.old unfinished.old strokes.old fractals.old raw.new unfinished.new strokes.new fractals.new }
 {
-    let r = raw.seen();
-    let u = unfinished.seen();
-    let k = strokes.seen();
-    let f = fractals.seen();
-    let asked = asking::ask(
-        *stand, r.times, r.ids, r.prices, u.times, u.ids, u.prices, u.counts, u.elements, k.times,
-        k.ids, k.prices, k.counts, k.elements, f.stamps, f.prices, b, clear,
-    );
-    if asked.failed != 0 {
-        return Err(question_of(asked.failed));
-    }
+    let stores = StoreColumns::of(raw, unfinished, strokes, fractals);
+    let asked = asking::ask(*stand, stores, b, clear)?;
     let w = writing::write(
         *stand,
         raw,
@@ -75,6 +48,7 @@ pub fn feed_sound(
         b,
     );
     *stand = w.stand;
+    // Kept: field by field, since Events is what feeds count, and writing, which is below feed and a part of its step, has them as three numbers of Wrote.
     Ok(Events {
         made: w.made,
         broken: w.broken,
@@ -97,19 +71,8 @@ impl Czsc {
         ensures demand3 { PortDemand3 }
         ensures same { SameColumns raw.old unfinished.old strokes.old fractals.old raw.new unfinished.new strokes.new fractals.new }
     {
-        let r = raw.seen();
-        let u = unfinished.seen();
-        let k = strokes.seen();
-        let f = fractals.seen();
-        let stores = StoreColumns {
-            raw: r,
-            unfinished: u,
-            strokes: k,
-            fractals: f,
-        };
-        if question4::is_sound(self.stand, stores) {
-            return feed_sound(&mut self.stand, raw, unfinished, strokes, fractals, b, 0);
-        }
-        Err(Question::Sound)
+        let stores = StoreColumns::of(raw, unfinished, strokes, fractals);
+        question4::ask(self.stand, stores)?;
+        feed_sound(&mut self.stand, raw, unfinished, strokes, fractals, b, 0)
     }
 }

@@ -18,6 +18,7 @@ pub use windows::{Counts, clear_after};
 // update_bar of a stand and stores that a list of feeds from a fresh analyzer left. What update_bar ensures; and what is left again comes from a fresh analyzer, so that the next bar may follow. Of
 // question 4 it asks the clause on the newest raw bar alone, at constant cost: the other clauses hold of every such stand. The first `clear` windows of the unfinished bars hold no fractal: 0, or what
 // clear_after answered of the feed before.
+// Kept: four values to be written, and `clear` as a number, as in feed_sound.
 pub fn update_from_fresh(
     stand: &mut Stand,
     raw: &mut RawColumnsMut<'_>,
@@ -36,6 +37,7 @@ pub fn update_from_fresh(
 {
     let r = raw.seen();
     let u = unfinished.seen();
+    // Kept: a test, since question4::ask asks all clauses, and a function that refuses by this one would be called here alone.
     if sound::newest_is_last(*stand, r.times, u.counts, u.elements) {
         return feed_sound(stand, raw, unfinished, strokes, fractals, b, clear);
     }

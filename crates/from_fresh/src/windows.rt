@@ -13,6 +13,7 @@ pub struct Counts {
 }
 
 impl Counts {
+    // Kept: three of a stand's numbers by name, and no conversion of it; From would be no shorter.
     pub fn of(stand: &Stand) -> Counts
         ensures { result ≡ record { strokes = stand.now.strokes; raw = stand.now.raw; unfinished = stand.now.unfinished } }
     {

@@ -1,11 +1,11 @@
 // A program that answers each line of its input.
-ghost use Rattle.std.specs.Prelude.{◌≡◌, ◌≢◌, ◌<◌, ◌≤◌, ◌↔◌, ◌==◌, IfOk, IsTrue, filter, length, slice_get};
+ghost use Rattle.std.specs.Prelude.{◌≡◌, ◌≢◌, ◌<◌, ◌≤◌, ◌↔◌, ◌==◌, Err, IfOk, IsTrue, filter, length, slice_get};
 
 use crate::reading::{buffered_input, read_line};
 use crate::writing::{Output, buffered_output, flush_before_reading};
 use std::alloc::{AllocError, AllocFailed};
 use std::io::{self, Write};
-use std::str;
+use std::str::{self, Utf8Error};
 
 // Why a line has no answer of its own: it is no question, it is too long, or memory or the output failed.
 #[derive(Debug, Drop)]
@@ -33,9 +33,18 @@ impl From<io::Error> for Unanswered {
     }
 }
 
+// A line that is to be text and is none is no question.
+impl From<Utf8Error> for Unanswered {
+    fn from(_e: Utf8Error) -> Unanswered {
+        Unanswered::BadLine
+    }
+}
+
 impl Unanswered {
     // Says so in place of the answer to the line with this number.
-    pub fn say(self, out: &mut Output, number: u64) -> io::Result<()> {
+    pub fn say(self, out: &mut Output, number: u64) -> io::Result<()>
+        ensures failed { (e : _) → self ≡ Unanswered.Failed e → result ≡ Err e }
+    {
         match self {
             Unanswered::BadLine => writeln!(out, "bad line {number}"),
             Unanswered::TooLong => writeln!(out, "too long"),
@@ -52,14 +61,14 @@ pub fn text(line: &[u8], most: usize) -> Result<&str, Unanswered>
     if most < line.len() {
         return Err(Unanswered::TooLong);
     }
-    str::from_utf8(line).map_err(|_| Unanswered::BadLine)
+    Ok(str::from_utf8(line)?)
 }
 
 // How many words stand behind the first.
-pub fn words_behind(line: &str) -> usize
+pub fn words_behind(line: &[u8]) -> usize
     ensures { result ≡ length (filter (λ b. b == 32) line.now) }
 {
-    line.bytes().filter(|b| *b == b' ').count()
+    line.iter().filter(|b| **b == b' ').count()
 }
 
 // Whether a line asks for an answer: an empty one doesn't, nor one that starts with `#`.
@@ -77,7 +86,7 @@ pub fn answer_lines<A, S>(
     mut say: S,
 ) -> io::Result<()>
 where
-    A: FnMut(&mut Output, &str) -> Result<(), Unanswered>,
+    A: FnMut(&mut Output, &[u8]) -> Result<(), Unanswered>,
     S: FnMut(Unanswered, &mut Output, u64) -> io::Result<()>,
     requires answer { A.IsAlwaysCallable answer }
     requires say { S.IsAlwaysCallable say }
@@ -93,9 +102,10 @@ where
             break;
         }
         if asks(&line) {
-            let answered = match text(&line, most) {
-                Ok(text) => answer(&mut out, text),
-                Err(unanswered) => Err(unanswered),
+            let answered = if most < line.len() {
+                Err(Unanswered::TooLong)
+            } else {
+                answer(&mut out, &line)
             };
             if let Err(unanswered) = answered {
                 say(unanswered, &mut out, number)?;

@@ -16,3 +16,6 @@ pub use writing::{Output, buffered_output, flush_before_reading};
 
 // What is left of a line, word by word: one space stands between two of them.
 pub type Words<'a> = Split<'a, char>;
+
+// The most bytes of a line that most programs take.
+pub const MOST: usize = 65536;

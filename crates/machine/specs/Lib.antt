@@ -1,3 +1,4 @@
+pub mod Names
 pub mod Fractals
 pub mod Strokes
 pub mod ByTime

@@ -7,4 +7,4 @@ mod stroke_rows;
 
 pub use fractals::{mark_at, middle_at};
 pub use runs::run_exists;
-pub use stroke_rows::{StrokeRows, end_row, kept, rows_of};
+pub use stroke_rows::{StrokeRows, kept};

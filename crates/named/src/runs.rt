@@ -7,11 +7,8 @@ use strokes::Stand;
 pub fn run_exists(stand: Stand, first: usize, count: usize) -> bool
     ensures { (result ≡ leb (first + count) stand.strokes) × (length stand.bars ≡ 65) × (length stand.fractals ≡ 65) }
 {
-    let bars = stand.bars;
-    let fractals = stand.fractals;
-    let n = stand.strokes;
-    if n < count {
-        return false;
-    }
-    first <= n - count
+    stand
+        .strokes
+        .checked_sub(count)
+        .is_some_and(|rest| first <= rest)
 }

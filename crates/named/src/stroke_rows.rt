@@ -14,34 +14,32 @@ pub struct StrokeRows {
 }
 
 // How many strokes are kept. The contract adds the lengths of the stand's lists of counts.
+// Kept: this function, and the lengths in the contracts, here, in run_exists and below, since a public function goes on promising what it promised.
 pub fn kept(stand: Stand) -> usize
     ensures { (result ≡ stand.strokes) × (length stand.bars ≡ 65) × (length stand.fractals ≡ 65) }
 {
     stand.strokes
 }
 
-pub fn rows_of(stand: Stand, place: usize) -> StrokeRows
-    requires fact_1 { place < 65 }
-    requires fact_2 { total (take place stand.bars) < 9223372036854775808 }
-    ensures { (result ≡ rows_of stand place) × (length stand.bars ≡ 65) × (length stand.fractals ≡ 65) }
-{
-    let counts = stand.bars;
-    let fractals = stand.fractals;
-    let first = strokes::total_bars(counts, place);
-    let n = counts[place] as usize;
-    let m = fractals[place] as usize;
-    StrokeRows {
-        first,
-        bars: n,
-        fractals: m,
+impl StrokeRows {
+    // The rows of the kept stroke at a place, the oldest at 0.
+    pub fn of(stand: Stand, place: usize) -> StrokeRows
+        requires fact_1 { place < 65 }
+        requires fact_2 { total (take place stand.bars) < 9223372036854775808 }
+        ensures { (result ≡ rows_of stand place) × (length stand.bars ≡ 65) × (length stand.fractals ≡ 65) }
+    {
+        StrokeRows {
+            first: strokes::total_bars(stand.bars, place),
+            bars: stand.bars[place] as usize,
+            fractals: stand.fractals[place] as usize,
+        }
     }
-}
 
-// The row of its end.
-pub fn end_row(rows: StrokeRows) -> usize
-    requires { rows.first + rows.fractals < 9223372036854775808 }
-    ensures { result ≡ end_row rows }
-{
-    let e = strokes::end_index(rows.fractals);
-    rows.first + e
+    // The row of its end.
+    pub fn end_row(self) -> usize
+        requires { self.first + self.fractals < 9223372036854775808 }
+        ensures { result ≡ end_row self }
+    {
+        self.first + strokes::end_index(self.fractals)
+    }
 }

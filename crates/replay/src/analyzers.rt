@@ -3,13 +3,16 @@ ghost use Rattle.strokes.specs.Columns.{written_in};
 ghost use Rattle.from_fresh.specs.FromFresh.{FromFresh};
 
 use crate::calls::{Call, Fresh};
-use crate::player::{Failure, Player, ROOMS};
+use crate::owned::{OwnedFractals, OwnedMerged, OwnedRaw};
+use crate::player::{Failure, Player};
 use from_fresh::update_from_fresh;
 use report_lines::Analyzer;
+use std::alloc::Global;
 use stores::{MergedColumnsMut, RawColumnsMut};
 use strokes::{FractalColumnsMut, Stand, StoreColumns};
 
 // The answers to the lines that follow, up to the next accepted `n`, which is handed back, or to the last line.
+// Kept: four values to be written, as StoreColumns (strokes) says.
 fn play(
     player: &mut Player,
     fresh: Stand,
@@ -21,7 +24,9 @@ fn play(
     requires { FromFresh fresh (written_in raw unfinished strokes fractals) }
 {
     let mut stand = fresh;
-    // A proved loop has to end, and nothing says that the input does. So it counts down from a number that no run uses up.
+    // A proved loop has to end, and nothing says that the input does. So it counts the lines, up to a number that no run reaches.
+    // Kept: a loop of its own, as in main and in Player::first: one function for the three would take this body as a closure, whose contract had to carry the
+    // loop's invariant (from a fresh analyzer) and the four lent values with it.
     for _ in 0..u64::MAX {
         let Some(call) = player.next_call()? else {
             break;
@@ -39,12 +44,7 @@ fn play(
             );
             player.fed(answer)?;
         } else {
-            let stores = StoreColumns {
-                raw: raw.seen(),
-                unfinished: unfinished.seen(),
-                strokes: strokes.seen(),
-                fractals: fractals.seen(),
-            };
+            let stores = StoreColumns::of(&raw, &unfinished, &strokes, &fractals);
             let accepted = player.answer(call, Some(Analyzer { stand, stores }))?;
             if accepted.is_some() {
                 return Ok(accepted);
@@ -63,81 +63,31 @@ fn start(
     strokes: MergedColumnsMut<'_>,
     fractals: FractalColumnsMut<'_>,
 ) -> Result<Option<Fresh>, Failure> {
-    let stores = StoreColumns {
-        raw: raw.seen(),
-        unfinished: unfinished.seen(),
-        strokes: strokes.seen(),
-        fractals: fractals.seen(),
-    };
-    let Ok(stand) = sound::new_stand(asked.minimum, asked.most, asked.power, asked.ratio, stores)
-    else {
+    let stores = StoreColumns::of(&raw, &unfinished, &strokes, &fractals);
+    let Ok(stand) = sound::new_stand(asked.settings, stores) else {
         return Ok(None);
     };
     play(player, stand, raw, unfinished, strokes, fractals)
 }
 
-// The same over stores of its own for the strokes and their fractals, as long as was asked for.
-fn with_strokes(
+// The same over stores of its own, as long as was asked for. The answers so far are written first, so that none is lost where memory is short.
+pub fn with_stores(
+    alloc: Global,
     player: &mut Player,
     asked: Fresh,
-    raw: RawColumnsMut<'_>,
-    unfinished: MergedColumnsMut<'_>,
 ) -> Result<Option<Fresh>, Failure> {
-    let mut times = [0i64; ROOMS.strokes];
-    let mut ids = [0i32; ROOMS.strokes];
-    let mut prices = [[0f64; 6]; ROOMS.strokes];
-    let mut counts = [0usize; ROOMS.strokes];
-    let mut elements = [[0i64; 101]; ROOMS.strokes];
-    let mut stamps = [[0i64; 6]; ROOMS.strokes];
-    let mut fractal_prices = [[0f64; 18]; ROOMS.strokes];
-    let n = asked.rooms.strokes.min(ROOMS.strokes);
-    let strokes = MergedColumnsMut {
-        times: &mut times[..n],
-        ids: &mut ids[..n],
-        prices: &mut prices[..n],
-        counts: &mut counts[..n],
-        elements: &mut elements[..n],
-    };
-    let fractals = FractalColumnsMut {
-        stamps: &mut stamps[..n],
-        prices: &mut fractal_prices[..n],
-    };
-    start(player, asked, raw, unfinished, strokes, fractals)
-}
-
-// .. and for the unfinished bars.
-fn with_unfinished(
-    player: &mut Player,
-    asked: Fresh,
-    raw: RawColumnsMut<'_>,
-) -> Result<Option<Fresh>, Failure> {
-    let mut times = [0i64; ROOMS.unfinished];
-    let mut ids = [0i32; ROOMS.unfinished];
-    let mut prices = [[0f64; 6]; ROOMS.unfinished];
-    let mut counts = [0usize; ROOMS.unfinished];
-    let mut elements = [[0i64; 101]; ROOMS.unfinished];
-    let n = asked.rooms.unfinished.min(ROOMS.unfinished);
-    let unfinished = MergedColumnsMut {
-        times: &mut times[..n],
-        ids: &mut ids[..n],
-        prices: &mut prices[..n],
-        counts: &mut counts[..n],
-        elements: &mut elements[..n],
-    };
-    with_strokes(player, asked, raw, unfinished)
-}
-
-// .. and for the raw bars: for all stores.
-// Kept: arrays side by side, since these columns are what the analyzer takes, and it has no heap.
-pub fn with_stores(player: &mut Player, asked: Fresh) -> Result<Option<Fresh>, Failure> {
-    let mut times = [0i64; ROOMS.raw];
-    let mut ids = [0i32; ROOMS.raw];
-    let mut prices = [[0f64; 6]; ROOMS.raw];
-    let n = asked.rooms.raw.min(ROOMS.raw);
-    let raw = RawColumnsMut {
-        times: &mut times[..n],
-        ids: &mut ids[..n],
-        prices: &mut prices[..n],
-    };
-    with_unfinished(player, asked, raw)
+    player.flush()?;
+    let rooms = asked.rooms;
+    let mut raw = OwnedRaw::new(alloc, rooms.raw)?;
+    let mut unfinished = OwnedMerged::new(alloc, rooms.unfinished)?;
+    let mut strokes = OwnedMerged::new(alloc, rooms.strokes)?;
+    let mut fractals = OwnedFractals::new(alloc, rooms.strokes)?;
+    start(
+        player,
+        asked,
+        raw.lent(),
+        unfinished.lent(),
+        strokes.lent(),
+        fractals.lent(),
+    )
 }

@@ -1,19 +1,14 @@
 // One line: which call it is.
 use bar_lines::read_bar;
 use bars::Bar;
-use lines::{Words, whole};
+use lines::{MOST, Words, whole};
+use sound::Settings;
 use strokes::Rooms;
-
-// The most bytes of a line that is taken.
-pub const MOST: usize = 65536;
 
 // What a fresh analyzer is asked for: its settings, and how many bars each of its stores holds.
 #[derive(Clone, Copy)]
 pub struct Fresh {
-    pub minimum: usize,
-    pub most: usize,
-    pub power: usize,
-    pub ratio: usize,
+    pub settings: Settings,
     pub rooms: Rooms,
 }
 
@@ -48,21 +43,26 @@ fn rooms(words: &mut Words<'_>) -> Option<Rooms> {
 // `n MIN MAX RAW UBI STROKE`: 2 places for power and 4 for ratios.
 fn start(words: &mut Words<'_>) -> Option<Call> {
     Some(Call::Start(Fresh {
-        minimum: count(words)?,
-        most: count(words)?,
-        power: 2,
-        ratio: 4,
+        settings: Settings {
+            minimum: count(words)?,
+            most: count(words)?,
+            power: 2,
+            ratio: 4,
+        },
         rooms: rooms(words)?,
     }))
 }
 
 // `N MIN MAX POWER RATIO RAW UBI STROKE`
+// Kept: beside `start`: the places stand in the middle of the line, so one function for both would take a switch for whether they are read.
 fn start_with_places(words: &mut Words<'_>) -> Option<Call> {
     Some(Call::Start(Fresh {
-        minimum: count(words)?,
-        most: count(words)?,
-        power: count(words)?,
-        ratio: count(words)?,
+        settings: Settings {
+            minimum: count(words)?,
+            most: count(words)?,
+            power: count(words)?,
+            ratio: count(words)?,
+        },
         rooms: rooms(words)?,
     }))
 }
@@ -77,10 +77,7 @@ fn read_call(line: &str) -> Option<Call> {
         "r" => Call::Reports,
         _ => return None,
     };
-    match words.next() {
-        None => Some(call),
-        Some(_) => None,
-    }
+    words.next().is_none().then_some(call)
 }
 
 pub fn call_of(line: &[u8]) -> Call {

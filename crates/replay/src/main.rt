@@ -9,22 +9,25 @@
 
 mod analyzers;
 mod calls;
+mod owned;
 mod player;
 
 use player::{Failure, Player};
 
 // One analyzer after the other.
 fn replay(rt: &HostRuntime) -> Result<(), Failure> {
-    let mut player = Player::new(rt.alloc(), rt.stdin(), rt.stdout())?;
+    let alloc = rt.alloc();
+    let mut player = Player::new(alloc, rt.stdin(), rt.stdout())?;
     let mut next = player.first()?;
-    // A proved loop has to end, and nothing says that the input does. So it counts down from a number that no run uses up.
+    // A proved loop has to end, and nothing says that the input does. So it counts the analyzers, up to a number that no run reaches.
+    // Kept: a loop of its own, see play (analyzers).
     for _ in 0..u64::MAX {
         let Some(asked) = next else {
             break;
         };
-        next = analyzers::with_stores(&mut player, asked)?;
+        next = analyzers::with_stores(alloc, &mut player, asked)?;
     }
-    player.end()
+    player.flush()
 }
 
 fn main(rt: HostRuntime) {

@@ -1,20 +1,22 @@
 // What is carried from line to line: where the calls are read and the answers are written.
-use crate::calls::{Call, Fresh, MOST, call_of};
+use crate::calls::{Call, Fresh, call_of};
 use bars::Question;
 use feed::Events;
-use lines::{Input, Output, buffered_input, buffered_output, flush_before_reading, read_line};
+use lines::{
+    Input, MOST, Output, buffered_input, buffered_output, flush_before_reading, read_line,
+};
 use report_lines::{Analyzer, refusal};
-use std::alloc::Global;
+use std::alloc::{AllocError, Global};
 use std::fmt;
 use std::io::{self, Stdin, Stdout, Write};
-use stores::{MergedColumns, RawColumns};
-use strokes::{FractalColumns, Rooms, Stand, StoreColumns};
+use strokes::{Rooms, Stand};
 
 // Why the program stops before its input has ended.
 #[derive(Debug, Drop)]
 pub enum Failure {
     Unread,
     Unwritten,
+    OutOfMemory,
 }
 
 impl fmt::Display for Failure {
@@ -22,6 +24,7 @@ impl fmt::Display for Failure {
         f.write_str(match self {
             Failure::Unread => "standard input can't be read",
             Failure::Unwritten => "standard output can't be written",
+            Failure::OutOfMemory => "no memory is left for the stores",
         })
     }
 }
@@ -29,6 +32,12 @@ impl fmt::Display for Failure {
 impl From<io::Error> for Failure {
     fn from(_e: io::Error) -> Failure {
         Failure::Unwritten
+    }
+}
+
+impl From<AllocError> for Failure {
+    fn from(_e: AllocError) -> Failure {
+        Failure::OutOfMemory
     }
 }
 
@@ -41,50 +50,30 @@ pub struct Player {
     number: u64,
 }
 
-// How many bars the program's own stores hold.
-pub const ROOMS: Rooms = Rooms {
+// The most bars that the program's own stores hold.
+const ROOMS: Rooms = Rooms {
     raw: 4096,
     unfinished: 1024,
     strokes: 2048,
 };
 
+fn lengths(rooms: Rooms) -> [usize; 3] {
+    [rooms.raw, rooms.unfinished, rooms.strokes]
+}
+
 // Question 3 of the lengths asked for.
+// Kept: beside rooms_fit of sound: that asks Rooms by its definition (is_room); made public for a program's first answer it would be a contract and a name more
+// for this one line.
 fn are_rooms(asked: Rooms) -> bool {
-    [asked.raw, asked.unfinished, asked.strokes]
-        .iter()
-        .all(|n| (16..=65536).contains(n))
+    lengths(asked).iter().all(|n| (16..=65536).contains(n))
 }
 
-// Whether the program's own stores are as long as asked for.
+// Whether the program's own stores may be as long as asked for.
 fn holds(asked: Rooms) -> bool {
-    asked.raw <= ROOMS.raw && asked.unfinished <= ROOMS.unfinished && asked.strokes <= ROOMS.strokes
-}
-
-// Questions 1, 2 and 17, as a fresh analyzer over the shortest stores answers them.
-fn settings_pass(asked: Fresh) -> Result<Stand, Question> {
-    let raw = RawColumns {
-        times: &[0; 16],
-        ids: &[0; 16],
-        prices: &[[0.0; 6]; 16],
-    };
-    let merged = MergedColumns {
-        times: &[0; 16],
-        ids: &[0; 16],
-        prices: &[[0.0; 6]; 16],
-        counts: &[0; 16],
-        elements: &[[0; 101]; 16],
-    };
-    let fractals = FractalColumns {
-        stamps: &[[0; 6]; 16],
-        prices: &[[0.0; 18]; 16],
-    };
-    let stores = StoreColumns {
-        raw,
-        unfinished: merged,
-        strokes: merged,
-        fractals,
-    };
-    sound::new_stand(asked.minimum, asked.most, asked.power, asked.ratio, stores)
+    lengths(asked)
+        .iter()
+        .zip(&lengths(ROOMS))
+        .all(|(n, most)| n <= most)
 }
 
 impl Player {
@@ -108,27 +97,27 @@ impl Player {
         Ok(Some(call_of(&self.line)))
     }
 
-    // The answer to `n` and `N`: whether the fresh analyzer is accepted. A refusal, question 3 on the lengths asked for, and stores longer than the program's leave
-    // the analyzer that was there.
-    fn started(&mut self, asked: Fresh) -> io::Result<bool> {
-        if let Err(q) = settings_pass(asked) {
-            refusal(&mut self.answers, q.number())?;
+    // The answer to `n` and `N`: hands back the fresh analyzer that was asked for, where it is accepted. A refusal, question 3 on the lengths asked for, and stores
+    // longer than the program's leave the analyzer that was there.
+    fn started(&mut self, asked: Fresh) -> io::Result<Option<Fresh>> {
+        if let Err(q) = asked.settings.ask() {
+            refusal(&mut self.answers, q)?;
         } else if !are_rooms(asked.rooms) {
-            refusal(&mut self.answers, 3)?;
+            refusal(&mut self.answers, Question::Rooms)?;
         } else if !holds(asked.rooms) {
             writeln!(self.answers, "too large")?;
         } else {
             writeln!(self.answers, "ok")?;
-            return Ok(true);
+            return Ok(Some(asked));
         }
-        Ok(false)
+        Ok(None)
     }
 
     // What a feed answered: `ok MADE BROKEN SHED`, or `no K`.
     pub fn fed(&mut self, r: Result<Events, Question>) -> io::Result<()> {
         match r {
             Ok(e) => writeln!(self.answers, "ok {} {} {}", e.made, e.broken, e.shed),
-            Err(q) => refusal(&mut self.answers, q.number()),
+            Err(q) => refusal(&mut self.answers, q),
         }
     }
 
@@ -142,21 +131,18 @@ impl Player {
         match (call, analyzer) {
             (Call::Skip, _) => {}
             (Call::Bad, _) => writeln!(self.answers, "bad line {}", self.number)?,
-            (Call::Start(asked), _) => {
-                if self.started(asked)? {
-                    return Ok(Some(asked));
-                }
-            }
+            (Call::Start(asked), _) => return Ok(self.started(asked)?),
             (Call::Stand, Some(analyzer)) => analyzer.stand_lines(&mut self.answers)?,
             (Call::Reports, Some(analyzer)) => analyzer.report(&mut self.answers)?,
-            _ => refusal(&mut self.answers, 4)?,
+            _ => refusal(&mut self.answers, Question::Sound)?,
         }
         Ok(None)
     }
 
     // The answers before any analyzer, up to an accepted `n` or the last line.
     pub fn first(&mut self) -> Result<Option<Fresh>, Failure> {
-        // A proved loop has to end, and nothing says that the input does. So it counts down from a number that no run uses up.
+        // A proved loop has to end, and nothing says that the input does. So it counts the lines, up to a number that no run reaches.
+        // Kept: a loop of its own, see play (analyzers).
         for _ in 0..u64::MAX {
             let Some(call) = self.next_call()? else {
                 break;
@@ -169,8 +155,8 @@ impl Player {
         Ok(None)
     }
 
-    // Writes the last answers.
-    pub fn end(mut self) -> Result<(), Failure> {
+    // Writes the answers so far.
+    pub fn flush(&mut self) -> Result<(), Failure> {
         self.answers.flush()?;
         Ok(())
     }

@@ -1,14 +1,15 @@
 // `r`: all reports of a sound stand, in a fixed order.
 use crate::Analyzer;
-use crate::text::{FractalRow, direction_of, direction_word, refusal};
+use crate::rows::{Row, Rows};
+use crate::text::{FractalRow, refusal};
 use bar_lines::GapText;
 use bars::{Gap, Question, Side};
 use lines::{Digits, Output, Spaced};
+use machine::Direction;
 use reports::{FractalAnswers, Measures, Strength};
 use std::io::{self, Write};
 use stores::RawColumnsMut;
 use strokes::FractalColumnsMut;
-use zones::{FakeColumnsMut, StrokeColumnsMut, ZoneColumnsMut};
 
 fn measure_words(out: &mut Output, m: Measures) -> io::Result<()> {
     let powers = [m.power_price, m.power_volume, m.snr, m.power_snr];
@@ -23,6 +24,7 @@ where
     F: FnOnce(&mut FractalColumnsMut<'_>) -> Result<usize, Question>,
     requires { F.IsAlwaysCallable list }
 {
+    // Kept: arrays side by side, since the entry points write into these two columns.
     let mut stamps = [[0i64; 6]; 3072];
     let mut prices = [[0f64; 18]; 3072];
     let mut to = FractalColumnsMut {
@@ -36,25 +38,35 @@ where
     Ok(())
 }
 
-// The time of each end of a zone, its directions, its edges, whether it is valid, and how many strokes it has.
-fn zone_line(
-    out: &mut Output,
-    name: &str,
-    t: &[i64; 2],
-    p: &[f64; 5],
-    n: &[usize; 4],
-) -> io::Result<()> {
-    write!(out, "{name}zone {} {}", t[0], t[1])?;
-    write!(out, " {} {}", direction_of(n[0]), direction_of(n[1]))?;
-    writeln!(out, "{} {} {}", Spaced(p), n[2], n[3])
+// The times of a zone's ends, its directions, its edges, whether it is valid, and how many strokes it has.
+// Kept: its last column is read as numbers, here and in the two functions below, as zones writes it (docs/STORES.md).
+fn zone_line(out: &mut Output, name: &str, zone: Row<5, [usize; 4]>) -> io::Result<()> {
+    let [from, to] = zone.times;
+    let [first, last, valid, strokes] = zone.kind;
+    write!(out, "{name}zone {from} {to}")?;
+    let [first, last] = [first, last].map(|n| Direction::from(n));
+    write!(out, " {first} {last}")?;
+    writeln!(out, "{} {valid} {strokes}", Spaced(&zone.prices))
 }
 
-fn zone_stroke(out: &mut Output, name: &str, t: &[i64; 2], p: &[f64; 2], d: u8) -> io::Result<()> {
-    write!(out, "{name}zs {}{}", direction_of(d as usize), Spaced(p))?;
-    writeln!(out, " {} {}", t[0], t[1])
+fn zone_stroke(out: &mut Output, name: &str, stroke: Row<2, u8>) -> io::Result<()> {
+    let direction = Direction::from(usize::from(stroke.kind));
+    let [from, to] = stroke.times;
+    writeln!(
+        out,
+        "{name}zs {direction}{} {from} {to}",
+        Spaced(&stroke.prices)
+    )
+}
+
+fn fake_line(out: &mut Output, fake: Row<3, u8>) -> io::Result<()> {
+    let direction = Direction::from(usize::from(fake.kind));
+    let [from, to] = fake.times;
+    writeln!(out, "fake {direction} {from} {to}{}", Spaced(&fake.prices))
 }
 
 fn answers_line(out: &mut Output, a: FractalAnswers) -> io::Result<()> {
+    // Kept: the one place that writes a strength; Display would be this match in reports.
     let strength = match a.power_str {
         Strength::Strong => "strong",
         Strength::Medium => "medium",
@@ -68,30 +80,49 @@ fn answers_line(out: &mut Output, a: FractalAnswers) -> io::Result<()> {
     )
 }
 
+// The answers of the fractals at places 0, 1 and so on, up to the first that `ask` refuses.
+fn answers_lines<F>(out: &mut Output, ask: F) -> io::Result<()>
+where
+    F: Fn(usize) -> Result<FractalAnswers, Question>,
+    requires { F.IsAlwaysCallable ask }
+{
+    for answers in (0..2048).map_while(|place| ask(place).ok()) {
+        answers_line(out, answers)?;
+    }
+    Ok(())
+}
+
 // A gap as the listing has it: 0 is none, 1 up, 2 down, 3 and 4 up and down without a ratio; then its edges and its ratio.
-fn gap_line(out: &mut Output, kind: u64, values: &[f64; 3], covered: bool) -> io::Result<()> {
-    let ratio = Some(values[2]);
+// Kept: from numbers, as check_gaps writes its columns (docs/STORES.md); `covered` is handed on and chooses no step.
+fn gap_of(kind: u64, values: [f64; 3], covered: bool) -> Option<Gap> {
+    let [low, high, ratio] = values;
     let (side, ratio) = match kind {
-        0 => return writeln!(out, "gap none"),
-        1 => (Side::Up, ratio),
-        2 => (Side::Down, ratio),
+        0 => return None,
+        1 => (Side::Up, Some(ratio)),
+        2 => (Side::Down, Some(ratio)),
         3 => (Side::Up, None),
         _ => (Side::Down, None),
     };
-    let gap = Gap {
+    Some(Gap {
         side,
-        low: values[0],
-        high: values[1],
+        low,
+        high,
         ratio,
         covered,
-    };
-    writeln!(out, "gap {}", GapText(gap))
+    })
+}
+
+fn gap_line(out: &mut Output, gap: Option<Gap>) -> io::Result<()> {
+    match gap {
+        Some(gap) => writeln!(out, "gap {}", GapText(gap)),
+        None => writeln!(out, "gap none"),
+    }
 }
 
 impl<'a> Analyzer<'a> {
     // The measures of the stroke at a place, and the number and the times of its inner raw bars.
     fn measure(&self, out: &mut Output, place: usize) -> io::Result<()> {
-        // Kept: the entry point writes into columns that are lent to it, without a heap.
+        // Kept: arrays side by side, since the entry point writes into these columns.
         let mut times = [0i64; 4096];
         let mut ids = [0i32; 4096];
         let mut prices = [[0f64; 6]; 4096];
@@ -115,62 +146,33 @@ impl<'a> Analyzer<'a> {
 
     // The fake strokes of the stroke at a place.
     fn fakes(&self, out: &mut Output, place: usize) -> io::Result<()> {
-        // Kept: the entry point writes into columns that are lent to it, without a heap.
-        let mut times = [[0i64; 2]; 1024];
-        let mut prices = [[0f64; 3]; 1024];
-        let mut directions = [0u8; 1024];
-        let mut to = FakeColumnsMut {
-            times: &mut times,
-            prices: &mut prices,
-            kinds: &mut directions,
-        };
-        let fakes = zones::create_fake_bis(self.stand, self.stores, place, &mut to).unwrap_or(0);
-        for ((t, p), d) in times.iter().zip(&prices).zip(&directions).take(fakes) {
-            let direction = direction_of(*d as usize);
-            writeln!(out, "fake {direction} {} {}{}", t[0], t[1], Spaced(p))?;
+        let mut fakes = Rows::<1024, 3, u8>::new(0);
+        let count = zones::create_fake_bis(self.stand, self.stores, place, &mut fakes.lent());
+        for fake in (0..count.unwrap_or(0)).map_while(|i| fakes.row(i)) {
+            fake_line(out, fake)?;
         }
         Ok(())
     }
 
     // The zones of the first `count` kept strokes, at most 64, each with its strokes.
     fn zones_of(&self, out: &mut Output, name: &str, count: usize) -> io::Result<()> {
-        // Kept: the entry point writes into columns that are lent to it, without a heap.
-        let mut zone_times = [[0i64; 2]; 64];
-        let mut zone_prices = [[0f64; 5]; 64];
-        let mut zone_numbers = [[0usize; 4]; 64];
-        let mut times = [[0i64; 2]; 64];
-        let mut prices = [[0f64; 2]; 64];
-        let mut directions = [0u8; 64];
-        let mut zones = ZoneColumnsMut {
-            times: &mut zone_times,
-            prices: &mut zone_prices,
-            kinds: &mut zone_numbers,
-        };
-        let mut of_zones = StrokeColumnsMut {
-            times: &mut times,
-            prices: &mut prices,
-            kinds: &mut directions,
-        };
+        let mut zones = Rows::<64, 5, [usize; 4]>::new([0; 4]);
+        let mut strokes = Rows::<64, 2, u8>::new(0);
         let Ok(listed) = zones::get_zs_seq(
             self.stand,
             self.stores,
             0,
             count,
-            &mut zones,
-            &mut of_zones,
+            &mut zones.lent(),
+            &mut strokes.lent(),
         ) else {
             return Ok(());
         };
-        let mut strokes = times.iter().zip(&prices).zip(&directions);
-        for ((t, p), n) in zone_times
-            .iter()
-            .zip(&zone_prices)
-            .zip(&zone_numbers)
-            .take(listed.zones)
-        {
-            zone_line(out, name, t, p, n)?;
-            for ((t, p), d) in strokes.by_ref().take(n[3]) {
-                zone_stroke(out, name, t, p, *d)?;
+        let mut of_zones = (0..listed.strokes).map_while(|i| strokes.row(i));
+        for zone in (0..listed.zones).map_while(|i| zones.row(i)) {
+            zone_line(out, name, zone)?;
+            for stroke in of_zones.by_ref().take(zone.kind[3]) {
+                zone_stroke(out, name, stroke)?;
             }
         }
         Ok(())
@@ -206,30 +208,18 @@ impl<'a> Analyzer<'a> {
 
     // The answers of each fractal of the stroke at a place.
     fn stroke_answers(&self, out: &mut Output, stroke: usize) -> io::Result<()> {
-        for place in 0..2048 {
-            let Ok(answers) = reports::stroke_fractal_answers(
-                self.stand,
-                self.stores,
-                stroke,
-                place,
-            ) else {
-                break;
-            };
-            answers_line(out, answers)?;
-        }
-        Ok(())
+        answers_lines(
+            out,
+            |place| reports::stroke_fractal_answers(self.stand, self.stores, stroke, place),
+        )
     }
 
     // .. and of each fractal of the unfinished bars.
     fn unfinished_answers(&self, out: &mut Output) -> io::Result<()> {
-        for place in 0..2048 {
-            let Ok(answers) = reports::unfinished_fractal_answers(self.stand, self.stores, place)
-            else {
-                break;
-            };
-            answers_line(out, answers)?;
-        }
-        Ok(())
+        answers_lines(
+            out,
+            |place| reports::unfinished_fractal_answers(self.stand, self.stores, place),
+        )
     }
 
     // The fractals of the unfinished bars.
@@ -246,9 +236,8 @@ impl<'a> Analyzer<'a> {
         let Ok(u) = reports::get_ubi(self.stand, self.stores) else {
             return writeln!(out, "unfinished no");
         };
-        let direction = direction_word(u.direction);
         let range = [u.high, u.low];
-        write!(out, "unfinished {direction}{}", Spaced(&range))?;
+        write!(out, "unfinished {}{}", u.direction, Spaced(&range))?;
         write!(out, " {} {}", u.highBar.time, u.lowBar.time)?;
         writeln!(
             out,
@@ -268,7 +257,7 @@ impl<'a> Analyzer<'a> {
 
     // Each pair of neighbouring kept raw bars.
     fn gaps(&self, out: &mut Output) -> io::Result<()> {
-        // Kept: the entry point writes into columns that are lent to it, without a heap.
+        // Kept: arrays side by side, since the entry point writes into these columns.
         let mut kinds = [0u64; 4096];
         let mut values = [[0f64; 3]; 4096];
         let mut covered = [false; 4096];
@@ -281,7 +270,7 @@ impl<'a> Analyzer<'a> {
         )
         .unwrap_or(0);
         for ((kind, values), covered) in kinds.iter().zip(&values).zip(&covered).take(count) {
-            gap_line(out, *kind, values, *covered)?;
+            gap_line(out, gap_of(*kind, *values, *covered))?;
         }
         Ok(())
     }
@@ -316,10 +305,11 @@ impl<'a> Analyzer<'a> {
     }
 
     pub fn report(&self, out: &mut Output) -> io::Result<()> {
+        // Kept: a test, since a match on the two answers of question4::ask would be as long: `?` can't hand its refusal on as an error of the output.
         if question4::is_sound(self.stand, self.stores) {
             self.over_all(out)
         } else {
-            refusal(out, 4)
+            refusal(out, Question::Sound)
         }
     }
 }

@@ -1,6 +1,6 @@
 // `d`: the stand and what its stores hold, whatever stand it is.
 use crate::Analyzer;
-use crate::text::{FractalRow, direction_word};
+use crate::text::FractalRow;
 use bar_lines::BarText;
 use bars::Bar;
 use lines::{Output, Spaced};
@@ -9,19 +9,6 @@ use std::io::{self, Write};
 use stores::{MergedColumns, RawColumns};
 use strokes::{FractalColumns, direction_of, end_index};
 
-fn bar_of(time: i64, id: i32, p: [f64; 6]) -> Bar {
-    Bar {
-        time,
-        id,
-        open: p[0],
-        close: p[1],
-        high: p[2],
-        low: p[3],
-        vol: p[4],
-        amount: p[5],
-    }
-}
-
 // A merged bar where it lies in its store.
 #[derive(Clone, Copy)]
 struct Merged<'a> {
@@ -29,11 +16,12 @@ struct Merged<'a> {
     elements: &'a [i64],
 }
 
+// Kept: by `get`, here and in fractal_at: a stand that is unsound may speak of rows that are not there, and the methods of stores ask that they are.
 fn merged_at(bars: MergedColumns<'_>, at: usize) -> Option<Merged<'_>> {
     let count = *bars.counts.get(at)?;
     let row = bars.elements.get(at)?;
     Some(Merged {
-        bar: bar_of(
+        bar: Bar::of(
             *bars.times.get(at)?,
             *bars.ids.get(at)?,
             *bars.prices.get(at)?,
@@ -69,8 +57,9 @@ impl<'a> fmt::Display for Named<'a> {
 
 // Each of the first n raw bars.
 fn raw_lines(out: &mut Output, raw: RawColumns<'_>, n: usize) -> io::Result<()> {
+    // Kept: zipped here: rows of RawColumns one after the other would be an iterator type with laws of its own, for this loop and batch's.
     for ((time, id), prices) in raw.times.iter().zip(raw.ids).zip(raw.prices).take(n) {
-        writeln!(out, "raw {}", BarText(bar_of(*time, *id, *prices)))?;
+        writeln!(out, "raw {}", BarText(Bar::of(*time, *id, *prices)))?;
     }
     Ok(())
 }
@@ -79,9 +68,9 @@ fn raw_lines(out: &mut Output, raw: RawColumns<'_>, n: usize) -> io::Result<()> 
 fn fractal_lines(out: &mut Output, fractal: FractalRow<'_>) -> io::Result<()> {
     writeln!(out, "fx {fractal}")?;
     let FractalRow { stamps, prices } = fractal;
-    for i in 0..3 {
-        write!(out, "fb {} {}", stamps[i], stamps[i + 3])?;
-        writeln!(out, "{}", Spaced(&prices[6 * i..6 * i + 6]))?;
+    let (times, ids) = stamps.split_at(3);
+    for ((time, id), bar) in times.iter().zip(ids).zip(prices.chunks_exact(6)) {
+        writeln!(out, "fb {time} {id}{}", Spaced(bar))?;
     }
     Ok(())
 }
@@ -96,10 +85,9 @@ impl<'a> Analyzer<'a> {
     // Each of the unfinished bars.
     fn unfinished_lines(&self, out: &mut Output) -> io::Result<()> {
         let kept = self.kept();
-        for i in 0..self.stand.unfinished {
-            let Some(Merged { bar, elements }) = merged_at(self.stores.unfinished, i) else {
-                return Ok(());
-            };
+        let bars = self.stores.unfinished;
+        for merged in (0..self.stand.unfinished).map_while(|i| merged_at(bars, i)) {
+            let Merged { bar, elements } = merged;
             writeln!(out, "ubi {} :{}", BarText(bar), Named { elements, kept })?;
         }
         Ok(())
@@ -108,6 +96,7 @@ impl<'a> Analyzer<'a> {
     // The merged bars of a stroke, from place `at` on, n of them; the first and the last without elements.
     fn stroke_bars(&self, out: &mut Output, at: usize, n: usize) -> io::Result<()> {
         let kept = self.kept();
+        // Kept: by place, which tells the first and the last: `map_while` would hand on the bars alone, to be counted again.
         for i in 0..n {
             let Some(Merged { bar, elements }) = merged_at(
                 self.stores.strokes,
@@ -125,20 +114,18 @@ impl<'a> Analyzer<'a> {
     }
 
     // The stroke whose rows begin at place `at`, with n merged bars and m fractals: `stroke up|down NFX NBARS`, its two ends, and then its fractals and its bars.
+    // Kept: three numbers and no StrokeRows (named), whose end_row asks that their sum is below 2^63, which is not known of an unsound stand.
     fn stroke_lines(&self, out: &mut Output, at: usize, n: usize, m: usize) -> io::Result<()> {
         let fractals = self.stores.fractals;
         let end = at.saturating_add(end_index(m));
         let (Some(first), Some(last)) = (fractal_at(fractals, at), fractal_at(fractals, end)) else {
             return Ok(());
         };
-        let direction = direction_word(direction_of(first.mark()));
+        let direction = direction_of(first.mark());
         writeln!(out, "stroke {direction} {m} {n}")?;
         writeln!(out, "a {first}")?;
         writeln!(out, "z {last}")?;
-        for i in 0..m {
-            let Some(fractal) = fractal_at(fractals, at.saturating_add(i)) else {
-                break;
-            };
+        for fractal in (at..at.saturating_add(m)).map_while(|i| fractal_at(fractals, i)) {
             fractal_lines(out, fractal)?;
         }
         self.stroke_bars(out, at, n)
@@ -147,6 +134,7 @@ impl<'a> Analyzer<'a> {
     // Every kept stroke, oldest first.
     fn strokes_lines(&self, out: &mut Output) -> io::Result<()> {
         let stand = self.stand;
+        // Kept: the place goes along; total_bars would add up the strokes before it once more for each stroke, and asks that their sum fits.
         let mut at: usize = 0;
         for (n, m) in stand.bars.iter().zip(&stand.fractals).take(stand.strokes) {
             self.stroke_lines(out, at, *n as usize, *m as usize)?;

@@ -3,6 +3,7 @@
 
 mod all_reports;
 mod dump;
+mod rows;
 mod text;
 
 use strokes::{Stand, StoreColumns};

@@ -1,5 +1,6 @@
 -- What a report knows where question 4, or 4 and 13, passed, and where one did not. Assumes nothing.
 use Rattle.std.proofs.Common.{ℕ, ◌≡◌, ◌∙◌, ◌<◌, ◌≤◌, Bool, true, false, Result, Ok, Err, IsErrAnd, ◌⊎◌, inl, inr, is_ok, true≢false, refl, sym, ap, arith, length}
+use mathlib.Core.Bool.{cond}
 use mathlib.Core.Option.{Option, none}
 use lib.Dec.{ltb}
 use borrow.Author.Tests.{ltb-true, ltb-false, lt-ltb, le-ltb}
@@ -34,6 +35,11 @@ handed_up (Ok x) e h = absurd h
 handed_up (Err y) e h = ap Err h
 
 -- ---- question 4
+
+pub asked_is : (q : Bool) → ◌≡◌ {A = Result (Unit {0}) Question} (cond q (Ok tt) (Err Sound)) (if_sound q tt)
+unfolding if_sound
+asked_is true = refl
+asked_is false = refl
 
 pub unsound : {A : Type 0} (q : Bool) (a : A) (e : Question) → Err e ≡ if_sound q a → (q ≡ false) × (e ≡ Sound)
 unfolding if_sound

@@ -1,90 +1,35 @@
--- Laws of the list of fractals, one step after the other. Assumes nothing.
-use Prim.Native.Nat.{ℕ, zero, suc, ◌+◌, ◌≤◌, ◌<◌}
+-- Laws of the list of fractals, one handed out after the other. Assumes nothing.
+use Prim.Native.Nat.{ℕ, suc, ◌+◌, ◌≤◌, ◌<◌}
 use native.Mathlib.Omega.{arith}
-use mathlib.Core.Path.{◌≡◌, refl, ap, sym, ◌∙◌, subst}
+use mathlib.Core.Path.{◌≡◌, refl, ap, sym, ◌∙◌}
 use mathlib.Core.Bool.{Bool, true, false}
-use mathlib.Core.List.{List, [], ◌∷◌, ◌++◌}
+use mathlib.Core.List.{List, [], ◌∷◌, ◌++◌, map}
 use mathlib.Core.Option.{Option, some}
-use lib.ListN.{length, take, drop, get_or, set, length-take, length-drop, length-set, length-append, drop_of_length-le}
+use lib.ListN.{length, take, drop, get_or, length-take, length-drop, drop_of_length-le}
 use lib.Seq.{length-take-le, drop-cons, get_or-take, get_or-drop, take-add, take_all, drop-drop}
 use lib.IntN.{ℤ, pos}
-use lib.Signed.{lt_z}
 use lib.Ieee.{Float, nan}
+use Rattle.std.specs.Prelude as Std
+use Rattle.std.specs.Prelude.{Some, None}
 use Rattle.bars.specs.Bars.{row_of}
 use Rattle.stores.specs.Stores.{bar_of, zip_with}
 use Rattle.stores.proofs.Columns.{zip-at, zip_length}
-use Rattle.machine.specs.Fractals.{Fractal}
+use Rattle.machine.specs.Fractals.{Fractal, time_of}
 use Rattle.strokes.specs.StateRead.{row_bar, fractal_of, row_fractal, stored_fractals, no_fractal, total}
 use Rattle.strokes.specs.declared.lent_columns.FractalColumnsMut.{FractalColumnsMut}
 use Rattle.strokes.specs.Columns.{SameFractals}
-use Rattle.strokes.specs.Lent.{fractal_store}
-use Rattle.strokes.specs.Code.StrokeSteps.{RoomFractals, Fewer}
+use Rattle.strokes.specs.Lent.{FractalStore, fractal_store}
 use Rattle.strokes.specs.FractalRows.{stamps_of, prices_of, stamp_row, price_row}
-use Rattle.strokes.proofs.StoredStrokes.{total-step}
-use Rattle.reports.specs.declared.fx_list.Listed.{Listed}
-use Rattle.reports.specs.FractalList.{is_after}
-use Rattle.reports.specs.Code.FxListing.{last_time, time_listed, Listing, listing, store_if, step_if, step_row, step_fx, step_all, CanList, stroke_rows}
 use Rattle.named.proofs.StrokeAt.{fewer-at}
-
--- ---- one step
-
-pub last-time : (n : ℕ) (t : ℤ) → (n ≡ 0 → ⊥) → last_time n t ≡ some t
-unfolding last_time
-last-time zero t h = absurd (h refl)
-last-time (suc n) t h = refl
-
-pub first-later : (s : Listed) (t : ℤ) → s.count ≡ 0 → true ≡ is_after (time_listed s) t
-unfolding is_after time_listed last_time
-first-later s t h = ap (λ (n : ℕ). is_after (last_time n s.time) t) (sym h)
-
-pub later_than_lem : (s : Listed) (t p u : ℤ) → (s.count ≡ 0 → ⊥) → p ≡ s.time → u ≡ t → lt_z p u ≡ is_after (time_listed s) t
-unfolding is_after time_listed
-later_than_lem s t p u h e q = (λ i. lt_z (e i) (q i)) ∙ ap (λ (o : Option ℤ). is_after o t) (sym (last-time s.count s.time h))
-
-pub step_out : (w : Bool) (x : Listing) (t : List ℤ) (p : List Float) → is_after (time_listed x.listed) (get_or t 1 (pos 0)) ≡ false → x ≡ step_row w x t p
-unfolding step_row step_if
-step_out w x t p e = ap (λ (b : Bool). step_if b w x t p) (sym e)
-
-pub step_in : (w : Bool) (x : Listing) (t : List ℤ) (p : List Float) → is_after (time_listed x.listed) (get_or t 1 (pos 0)) ≡ true
-    → record { store = store_if w x.store x.listed.count t p; listed = record { count = x.listed.count + 1; time = get_or t 1 (pos 0) } } ≡ step_row w x t p
-unfolding step_row step_if
-step_in w x t p e = ap (λ (b : Bool). step_if b w x t p) (sym e)
-
--- what the code returns where it writes, and where it does not
-pub step-written : (w : Bool) (ts : List (List ℤ)) (ps : List (List Float)) (s : Listed) (t : List ℤ) (p : List Float) → w ≡ true → is_after (time_listed s) (get_or t 1 (pos 0)) ≡ true
-    → listing (fractal_store (set ts s.count t) (set ps s.count p)) (record { count = s.count + 1; time = get_or t 1 (pos 0) }) ≡ step_row w (listing (fractal_store ts ps) s) t p
-unfolding store_if
-step-written w ts ps s t p e h =
-    subst
-    (λ (b : Bool). listing (fractal_store (set ts s.count t) (set ps s.count p)) (record { count = s.count + 1; time = get_or t 1 (pos 0) }) ≡ step_row b (listing (fractal_store ts ps) s) t p)
-    (sym e) (step_in true (listing (fractal_store ts ps) s) t p h)
-
-pub step-counted : (w : Bool) (ts : List (List ℤ)) (ps : List (List Float)) (s : Listed) (t : List ℤ) (p : List Float) → w ≡ false → is_after (time_listed s) (get_or t 1 (pos 0)) ≡ true
-    → listing (fractal_store ts ps) (record { count = s.count + 1; time = get_or t 1 (pos 0) }) ≡ step_row w (listing (fractal_store ts ps) s) t p
-unfolding store_if
-step-counted w ts ps s t p e h =
-    subst (λ (b : Bool). listing (fractal_store ts ps) (record { count = s.count + 1; time = get_or t 1 (pos 0) }) ≡ step_row b (listing (fractal_store ts ps) s) t p) (sym e)
-    (step_in false (listing (fractal_store ts ps) s) t p h)
-
--- the room that the code asks for where it writes
-pub step_room : (w : Bool) (ts : List (List ℤ)) (ps : List (List Float)) (s : Listed) (t : List ℤ) (p : List Float)
-    → (w ≡ true → RoomFractals (fractal_store ts ps) (step_row w (listing (fractal_store ts ps) s) t p).listed.count) → w ≡ true → is_after (time_listed s) (get_or t 1 (pos 0)) ≡ true
-    → (s.count < length ts) × (s.count < length ps)
-step_room w ts ps s t p r e h =
-    let q : (step_row w (listing (fractal_store ts ps) s) t p).listed.count ≡ s.count + 1 = ap (λ (x : Listing). x.listed.count) (sym (step_in w (listing (fractal_store ts ps) s) t p h)) in
-    let k = r e in
-    let a = k.stamps in
-    let b = k.prices in
-    (omega arith, omega arith)
+use Rattle.reports.specs.declared.fx_list.FractalRows.{FractalRows}
+use Rattle.reports.specs.declared.fx_list.FxList.{FxList}
+use Rattle.reports.specs.FractalList.{is_after, list_if, later_than}
+use Rattle.reports.specs.Code.FxListing.{rows_of, GivesRows, stroke_rows, rows_from, CanRead, all_left, time_of_last, listed_left, rows_left}
 
 -- ---- the same columns yet
 
 pub same_none : (a : FractalColumnsMut) → SameFractals a a
 same_none a = record { stamps = refl; prices = refl; stamps_room = refl; prices_room = refl }
-
-pub same_next : (a b c : FractalColumnsMut) → SameFractals a b → SameFractals b c → SameFractals a c
-same_next a b c h k =
-    record { stamps = k.stamps ∙ h.stamps; prices = k.prices ∙ h.prices; stamps_room = k.stamps_room ∙ h.stamps_room; prices_room = k.prices_room ∙ h.prices_room }
 
 -- ---- rows read back
 
@@ -120,148 +65,64 @@ prices-back t p h =
     whole : take 6 p ++ take 6 (drop 6 p) ++ take 6 (drop 12 p) ≡ p
     whole = sym (ap (λ (x : List Float). x ++ take 6 (drop 12 p)) (take-add 6 6 p)) ∙ sym (take-add 12 6 p) ∙ take_all 18 p (omega arith)
 
--- the step of a row that is read is the step of its fractal
-pub step_read : (w : Bool) (x : Listing) (t : List ℤ) (p : List Float) → length t ≡ 6 → length p ≡ 18 → step_row w x t p ≡ step_fx w x (row_fractal t p)
-unfolding step_fx
-step_read w x t p h g = λ i. step_row w x (sym (stamps-back t p h) i) (sym (prices-back t p g) i)
+pub rows-back : (t : List ℤ) (p : List Float) → length t ≡ 6 → length p ≡ 18 → record { stamps = t; prices = p } ≡ rows_of (row_fractal t p)
+unfolding rows_of
+rows-back t p a b = λ i. record { stamps = sym (stamps-back t p a) i; prices = sym (prices-back t p b) i }
 
--- ---- what a step leaves as it was, and how it counts
+-- ---- the fractals of the strokes
 
-listed_if : (b w w' : Bool) (x y : Listing) (t t' : List ℤ) (p p' : List Float) → x.listed ≡ y.listed → get_or t 1 (pos 0) ≡ get_or t' 1 (pos 0)
-    → (step_if b w x t p).listed ≡ (step_if b w' y t' p').listed
-unfolding step_if
-listed_if true w w' x y t t' p p' e q = λ i. record { count = (e i).count + 1; time = q i }
-listed_if false w w' x y t t' p p' e q = e
+stroke_from : (ns ms : List ℕ) (F : List Fractal) → rows_from ns ms 1 F ≡ stroke_rows ns ms F
+unfolding rows_from stroke_rows
+stroke_from [] ms F = refl
+stroke_from (n ∷ ns) [] F = refl
+stroke_from (n ∷ ns) (m ∷ ms) F = refl
 
--- what is listed does not depend on the output
-pub listed_same : (w w' : Bool) (x y : Listing) (t t' : List ℤ) (p p' : List Float) → x.listed ≡ y.listed → get_or t 1 (pos 0) ≡ get_or t' 1 (pos 0)
-    → (step_row w x t p).listed ≡ (step_row w' y t' p').listed
-unfolding step_row
-listed_same w w' x y t t' p p' e q =
-    listed_if (is_after (time_listed x.listed) (get_or t 1 (pos 0))) w w' x y t t' p p' e q
-    ∙ (λ i. (step_if (is_after (time_listed (e i)) (q i)) w' y t' p').listed)
+pub strokes-all : (ns ms : List ℕ) (F : List Fractal) → rows_from (drop 0 ns) (drop 0 ms) 1 (drop 0 F) ≡ stroke_rows ns ms F
+strokes-all ns ms F = stroke_from ns ms F
 
-pub listed-all : (w w' : Bool) (x y : Listing) (fs : List Fractal) → x.listed ≡ y.listed → (step_all w x fs).listed ≡ (step_all w' y fs).listed
-unfolding step_all step_fx
-listed-all w w' x y [] e = e
-listed-all w w' x y (f ∷ fs) e =
-    listed-all w w' (step_fx w x f) (step_fx w' y f) fs (listed_same w w' x y (stamp_row f) (stamp_row f) (price_row f) (price_row f) e refl)
+module _ (ns ms : List ℕ) (F : List Fractal) (at i : ℕ) (a : i < length ns) (b : i < length ms) where
+  abbrev Rest : List Fractal
+  Rest = stroke_rows (drop (suc i) ns) (drop (suc i) ms) (drop (at + get_or ns i 0) F)
 
-count_if_lem : (b w : Bool) (x : Listing) (t : List ℤ) (p : List Float) → (x.listed.count ≤ (step_if b w x t p).listed.count) × ((step_if b w x t p).listed.count ≤ x.listed.count + 1)
-unfolding step_if
-count_if_lem true w x t p = (omega arith, omega arith)
-count_if_lem false w x t p = (omega arith, omega arith)
+  from_cons : (j : ℕ) → rows_from (drop i ns) (drop i ms) j (drop at F) ≡ drop j (take (get_or ms i 0) (drop at F)) ++ Rest
+  unfolding rows_from
+  from_cons j =
+      (λ t. rows_from (drop-cons ns i 0 a t) (drop-cons ms i 0 b t) j (drop at F))
+      ∙ ap (λ (z : List Fractal). drop j (take (get_or ms i 0) (drop at F)) ++ stroke_rows (drop (suc i) ns) (drop (suc i) ms) z) (drop-drop (get_or ns i 0) at F)
 
-pub count-step : (w : Bool) (x : Listing) (f : Fractal) → (x.listed.count ≤ (step_fx w x f).listed.count) × ((step_fx w x f).listed.count ≤ x.listed.count + 1)
-unfolding step_fx step_row
-count-step w x f = count_if_lem (is_after (time_listed x.listed) (get_or (stamp_row f) 1 (pos 0))) w x (stamp_row f) (price_row f)
+  -- none is left of the i-th
+  pub stroke_over : (j : ℕ) → get_or ms i 0 ≤ j → rows_from (drop i ns) (drop i ms) j (drop at F) ≡ rows_from (drop (i + 1) ns) (drop (i + 1) ms) 1 (drop (at + get_or ns i 0) F)
+  stroke_over j h =
+      let c : i + 1 ≡ suc i = omega arith in
+      let z : length (take (get_or ms i 0) (drop at F)) ≤ j = rw length-take (omega arith) in
+      from_cons j
+      ∙ ap (λ (x : List Fractal). x ++ Rest) (drop_of_length-le (take (get_or ms i 0) (drop at F)) {i = j} z)
+      ∙ sym (stroke_from (drop (suc i) ns) (drop (suc i) ms) (drop (at + get_or ns i 0) F))
+      ∙ (λ t. rows_from (drop (sym c t) ns) (drop (sym c t) ms) 1 (drop (at + get_or ns i 0) F))
 
-pub count-all : (w : Bool) (x : Listing) (fs : List Fractal) → x.listed.count ≤ (step_all w x fs).listed.count
-unfolding step_all
-count-all w x [] = omega arith
-count-all w x (f ∷ fs) =
-    let a = (count-step w x f).0 in
-    let b = count-all w (step_fx w x f) fs in
-    omega arith
+  -- the next one stands in row j of its rows
+  pub stroke_row : (j : ℕ) (f : Fractal) → drop j (take (get_or ms i 0) (drop at F)) ≡ f ∷ drop (suc j) (take (get_or ms i 0) (drop at F))
+      → rows_from (drop i ns) (drop i ms) j (drop at F) ≡ f ∷ rows_from (drop i ns) (drop i ms) (j + 1) (drop at F)
+  stroke_row j f e =
+      let c : j + 1 ≡ suc j = omega arith in
+      from_cons j
+      ∙ ap (λ (x : List Fractal). x ++ Rest) e
+      ∙ ap (λ (x : List Fractal). f ∷ x) (sym (from_cons (suc j)))
+      ∙ (λ t. f ∷ rows_from (drop i ns) (drop i ms) (sym c t) (drop at F))
 
--- the output keeps its lengths
-pub record SameSize (x y : Listing) : Type 0 where
-  pub stamps : length x.store.stamps ≡ length y.store.stamps
-  pub prices : length x.store.prices ≡ length y.store.prices
+rows_none : (ns ms : List ℕ) (j : ℕ) (F : List Fractal) → length ns ≡ 0 → rows_from ns ms j F ≡ []
+unfolding rows_from
+rows_none [] ms j F h = refl
+rows_none (n ∷ ns) ms j F h = let z : ⊥ = omega arith in absurd z
 
-size_if : (b w : Bool) (x : Listing) (t : List ℤ) (p : List Float) → SameSize (step_if b w x t p) x
-unfolding step_if store_if
-size_if true true x t p =
-    record { stamps = length-set x.store.stamps x.listed.count t; prices = length-set x.store.prices x.listed.count p }
-size_if true false x t p = record { stamps = refl; prices = refl }
-size_if false w x t p = record { stamps = refl; prices = refl }
-
-pub size_step : (w : Bool) (x : Listing) (t : List ℤ) (p : List Float) → SameSize (step_row w x t p) x
-unfolding step_row
-size_step w x t p = size_if (is_after (time_listed x.listed) (get_or t 1 (pos 0))) w x t p
-
-pub size_all : (w : Bool) (x : Listing) (fs : List Fractal) → SameSize (step_all w x fs) x
-unfolding step_all step_fx
-size_all w x [] = record { stamps = refl; prices = refl }
-size_all w x (f ∷ fs) =
-    let a = size_step w x (stamp_row f) (price_row f) in
-    let b = size_all w (step_fx w x f) fs in
-    record { stamps = b.stamps ∙ a.stamps; prices = b.prices ∙ a.prices }
-
--- ---- what is asked goes from step to step
-
-pub can_next : (w : Bool) (x : Listing) (f : Fractal) (fs : List Fractal) → CanList w x (f ∷ fs) → CanList w (step_fx w x f) fs
-unfolding step_all step_fx
-can_next w x f fs h =
-    let a = size_step w x (stamp_row f) (price_row f) in
-    let n = (count-step w x f).1 in
-    let k = h.small in
-    let e : (step_all false (step_fx w x f) fs).listed ≡ (step_all false x (f ∷ fs)).listed =
-    listed-all false false (step_fx w x f) (step_fx false x f) fs (listed_same w false x x (stamp_row f) (stamp_row f) (price_row f) (price_row f) refl refl) in
-    record {
-      room =
-          λ q.
-          (let r = h.room q in
-          let u = r.stamps in
-          let v = r.prices in
-          let s = a.stamps in
-          let p = a.prices in
-          let c = ap (λ (y : Listed). y.count) e in
-          record { stamps = omega arith; prices = omega arith });
-      small = omega arith;
-    }
-
--- what one step of a row asks
-pub can_step : (w : Bool) (x : Listing) (t : List ℤ) (p : List Float) (fs : List Fractal) → CanList w x (row_fractal t p ∷ fs)
-    → (w ≡ true → RoomFractals x.store (step_row w x t p).listed.count) × (x.listed.count < 4294967296)
-unfolding step_all step_fx stamp_row stamps_of row_fractal fractal_of row_bar bar_of
-can_step w x t p fs h =
-    let f = row_fractal t p in
-    let c = ap (λ (y : Listed). y.count) (listed_same w false x x t (stamp_row f) p (price_row f) refl refl) in
-    let m = count-all false (step_fx false x f) fs in
-    let k = h.small in (
-      λ q.
-          (let r = h.room q in
-          let u = r.stamps in
-          let v = r.prices in
-          record { stamps = omega arith; prices = omega arith }),
-      omega arith,
-    )
-
--- ---- one fractal after the other
-
-pub fx_asks : (w : Bool) (x : Listing) (f : Fractal) (fs : List Fractal) → CanList w x (f ∷ fs)
-    → (w ≡ true → RoomFractals x.store (step_row w x (stamp_row f) (price_row f)).listed.count) × (x.listed.count < 4294967296)
-unfolding step_all step_fx
-fx_asks w x f fs h =
-    let c = ap (λ (y : Listed). y.count) (listed_same w false x x (stamp_row f) (stamp_row f) (price_row f) (price_row f) refl refl) in
-    let m = count-all false (step_fx false x f) fs in
-    let k = h.small in (
-      λ q.
-          (let r = h.room q in
-          let u = r.stamps in
-          let v = r.prices in
-          record { stamps = omega arith; prices = omega arith }),
-      omega arith,
-    )
-
-pub fx_goes : (w : Bool) (x y e : Listing) (f : Fractal) (fs : List Fractal) → y ≡ step_row w x (stamp_row f) (price_row f) → step_all w x (f ∷ fs) ≡ e → CanList w x (f ∷ fs)
-    → (step_all w y fs ≡ e) × CanList w y fs
-unfolding step_all step_fx
-fx_goes w x y e f fs q g h =
-    (ap (λ (z : Listing). step_all w z fs) q ∙ g, subst (λ (z : Listing). CanList w z fs) (sym q) (can_next w x f fs h))
-
-pub fx_done : (w : Bool) (x e : Listing) (l : List Fractal) → l ≡ [] → step_all w x l ≡ e → x ≡ e
-unfolding step_all
-fx_done w x e l z g = sym (ap (step_all w x) z) ∙ g
-
--- ---- the loop over the rows of a stroke
+pub strokes_end : (ns ms : List ℕ) (i j : ℕ) (F : List Fractal) → length ns ≤ i → rows_from (drop i ns) (drop i ms) j F ≡ []
+strokes_end ns ms i j F h = rows_none (drop i ns) (drop i ms) j F (omega (arith, length-drop i ns))
 
 module _ (ts : List (List ℤ)) (ps : List (List Float)) (same : length ps ≡ length ts) (at m j : ℕ) (inside : at + m ≤ length ts) (k : j < m) where
   abbrev M : List Fractal
   M = take m (drop at (stored_fractals (fractal_store ts ps)))
 
-  row_cons : drop j M ≡ row_fractal (get_or ts (at + j) []) (get_or ps (at + j) []) ∷ drop (suc j) M
+  pub row_cons : drop j M ≡ row_fractal (get_or ts (at + j) []) (get_or ps (at + j) []) ∷ drop (suc j) M
   unfolding stored_fractals
   row_cons =
       let l : length (zip_with row_fractal ts ps) ≡ length ts = zip_length row_fractal ts ps (sym same) in
@@ -271,119 +132,76 @@ module _ (ts : List (List ℤ)) (ps : List (List Float)) (same : length ps ≡ l
       (get_or-take m (drop at (zip_with row_fractal ts ps)) j no_fractal k ∙ get_or-drop at (zip_with row_fractal ts ps) j no_fractal
       ∙ zip-at row_fractal (at + j) ts ps [] [] no_fractal (omega arith) (omega arith))
 
-  pub row_asks : (w : Bool) (x : Listing) → CanList w x (drop j M)
-      → (w ≡ true → RoomFractals x.store (step_row w x (get_or ts (at + j) []) (get_or ps (at + j) [])).listed.count) × (x.listed.count < 4294967296)
-  row_asks w x h = can_step w x (get_or ts (at + j) []) (get_or ps (at + j) []) (drop (suc j) M) (subst (CanList w x) row_cons h)
+-- what the code knows of the i-th stroke
+module _ (r : FractalStore) (ns ms : List ℕ) (i at : ℕ) (h : CanRead r ns ms i at) (a : i < length ns) where
+  pub counted_too : i < length ms
+  counted_too = omega (arith, h.alike)
 
-  pub row_goes : (w : Bool) (x y e : Listing) → y ≡ step_row w x (get_or ts (at + j) []) (get_or ps (at + j) []) → length (get_or ts (at + j) []) ≡ 6 → length (get_or ps (at + j) []) ≡ 18
-      → step_all w x (drop j M) ≡ e → CanList w x (drop j M) → (step_all w y (drop (j + 1) M) ≡ e) × CanList w y (drop (j + 1) M)
-  unfolding step_all
-  row_goes w x y e q a b g h =
-      let f = row_fractal (get_or ts (at + j) []) (get_or ps (at + j) []) in
-      let c : j + 1 ≡ suc j = omega arith in
-      let p : y ≡ step_fx w x f = q ∙ step_read w x (get_or ts (at + j) []) (get_or ps (at + j) []) a b in (
-        (λ i. step_all w (p i) (drop (c i) M)) ∙ sym (ap (step_all w x) row_cons) ∙ g,
-        subst (λ (n : ℕ). CanList w y (drop n M)) (sym c) (subst (λ (z : Listing). CanList w z (drop (suc j) M)) (sym p) (can_next w x f (drop (suc j) M) (subst (CanList w x) row_cons h))),
-      )
-
-pub rows_done : (w : Bool) (L : List Fractal) (m j : ℕ) (x e : Listing) → m ≤ j → step_all w x (drop j (take m L)) ≡ e → x ≡ e
-unfolding step_all
-rows_done w L m j x e h g =
-    let z : length (take m L) ≤ j = rw length-take (omega arith) in
-    sym (ap (step_all w x) (drop_of_length-le (take m L) {i = j} z)) ∙ g
-
--- ---- one list after the other
-
-pub all_append : (w : Bool) (x : Listing) (l r : List Fractal) → step_all w x (l ++ r) ≡ step_all w (step_all w x l) r
-unfolding step_all
-all_append w x [] r = refl
-all_append w x (f ∷ l) r = all_append w (step_fx w x f) l r
-
-pub can_front : (w : Bool) (x : Listing) (l r : List Fractal) → CanList w x (l ++ r) → CanList w x l
-can_front w x l r h =
-    let c = ap (λ (y : Listing). y.listed.count) (all_append false x l r) in
-    let m = count-all false (step_all false x l) r in
-    let k = h.small in
-    let n = length-append l r in
-    record {
-      room =
-          λ q.
-          (let b = h.room q in
-          let u = b.stamps in
-          let v = b.prices in
-          record { stamps = omega arith; prices = omega arith });
-      small = omega arith;
-    }
-
-pub can_back : (w : Bool) (x : Listing) (l r : List Fractal) → CanList w x (l ++ r) → CanList w (step_all w x l) r
-unfolding step_all
-can_back w x [] r h = h
-can_back w x (f ∷ l) r h = can_back w (step_fx w x f) l r (can_next w x f (l ++ r) h)
-
--- ---- the loop over the strokes
-
-module _ (ns ms : List ℕ) (F : List Fractal) (at i : ℕ) (a : i < length ns) (b : i < length ms) where
-  stroke_cons : stroke_rows (drop i ns) (drop i ms) (drop at F)
-      ≡ drop 1 (take (get_or ms i 0) (drop at F)) ++ stroke_rows (drop (suc i) ns) (drop (suc i) ms) (drop (at + get_or ns i 0) F)
-  unfolding stroke_rows
-  stroke_cons =
-      (λ j. stroke_rows (drop-cons ns i 0 a j) (drop-cons ms i 0 b j) (drop at F))
-      ∙ ap (λ (z : List Fractal). drop 1 (take (get_or ms i 0) (drop at F)) ++ stroke_rows (drop (suc i) ns) (drop (suc i) ms) z) (drop-drop (get_or ns i 0) at F)
-
-  pub stroke_asks : (w : Bool) (x : Listing) → CanList w x (stroke_rows (drop i ns) (drop i ms) (drop at F)) → CanList w x (drop 1 (take (get_or ms i 0) (drop at F)))
-  stroke_asks w x h =
-      can_front w x (drop 1 (take (get_or ms i 0) (drop at F))) (stroke_rows (drop (suc i) ns) (drop (suc i) ms) (drop (at + get_or ns i 0) F)) (subst (CanList w x) stroke_cons h)
-
-  pub stroke_goes : (w : Bool) (x y e : Listing) → y ≡ step_all w x (drop 1 (take (get_or ms i 0) (drop at F))) → step_all w x (stroke_rows (drop i ns) (drop i ms) (drop at F)) ≡ e
-      → CanList w x (stroke_rows (drop i ns) (drop i ms) (drop at F))
-      → (step_all w y (stroke_rows (drop (i + 1) ns) (drop (i + 1) ms) (drop (at + get_or ns i 0) F)) ≡ e)
-      × CanList w y (stroke_rows (drop (i + 1) ns) (drop (i + 1) ms) (drop (at + get_or ns i 0) F))
-  stroke_goes w x y e q g h =
+  total_cons : total (drop i ns) ≡ get_or ns i 0 + total (drop (i + 1) ns)
+  unfolding total
+  total_cons =
       let c : i + 1 ≡ suc i = omega arith in
-      let l = drop 1 (take (get_or ms i 0) (drop at F)) in
-      let r = stroke_rows (drop (suc i) ns) (drop (suc i) ms) (drop (at + get_or ns i 0) F) in
-      let s : stroke_rows (drop (i + 1) ns) (drop (i + 1) ms) (drop (at + get_or ns i 0) F) ≡ r = ap (λ (k : ℕ). stroke_rows (drop k ns) (drop k ms) (drop (at + get_or ns i 0) F)) c in (
-        (λ j. step_all w (q j) (s j)) ∙ sym (all_append w x l r) ∙ sym (ap (step_all w x) stroke_cons) ∙ g,
-        subst (CanList w y) (sym s) (subst (λ (z : Listing). CanList w z r) (sym q) (can_back w x l r (subst (CanList w x) stroke_cons h))),
-      )
+      ap total (drop-cons ns i 0 a) ∙ ap (λ (k : ℕ). get_or ns i 0 + total (drop k ns)) (sym c)
 
-  -- of the numbers that the code has read
-  pub stroke_by : (n m : ℕ) → get_or ns i 0 ≡ n → get_or ms i 0 ≡ m → (w : Bool) (x y e : Listing) → y ≡ step_all w x (drop 1 (take m (drop at F)))
-      → step_all w x (stroke_rows (drop i ns) (drop i ms) (drop at F)) ≡ e → CanList w x (stroke_rows (drop i ns) (drop i ms) (drop at F))
-      → (step_all w y (stroke_rows (drop (i + 1) ns) (drop (i + 1) ms) (drop (at + n) F)) ≡ e)
-      × CanList w y (stroke_rows (drop (i + 1) ns) (drop (i + 1) ms) (drop (at + n) F))
-  stroke_by n m p q w x y e r g h =
-      subst
-      (λ (k : ℕ). (step_all w y (stroke_rows (drop (i + 1) ns) (drop (i + 1) ms) (drop (at + k) F)) ≡ e) × CanList w y (stroke_rows (drop (i + 1) ns) (drop (i + 1) ms) (drop (at + k) F)))
-      p (stroke_goes w x y e (r ∙ ap (λ (k : ℕ). step_all w x (drop 1 (take k (drop at F)))) (sym q)) g h)
+  pub bars_fit : at + get_or ns i 0 ≤ length r.stamps
+  bars_fit = let e = total_cons in let f = h.fits in omega arith
 
-rows_none : (ns ms : List ℕ) (F : List Fractal) → length ns ≡ 0 → stroke_rows ns ms F ≡ []
-unfolding stroke_rows
-rows_none [] ms F h = refl
-rows_none (n ∷ ns) ms F h = let z : ⊥ = omega arith in absurd z
+  pub fractals_fit : at + get_or ms i 0 ≤ length r.stamps
+  fractals_fit = let e = fewer-at ns ms i h.fewer a counted_too in let f = bars_fit in omega arith
 
-pub strokes_done : (w : Bool) (ns ms : List ℕ) (F : List Fractal) (i at : ℕ) (x e : Listing) → length ns ≤ i → step_all w x (stroke_rows (drop i ns) (drop i ms) (drop at F)) ≡ e → x ≡ e
-unfolding step_all
-strokes_done w ns ms F i at x e h g =
-    sym (ap (step_all w x) (rows_none (drop i ns) (drop i ms) (drop at F) (omega (arith, length-drop i ns)))) ∙ g
+  pub can_over : CanRead r ns ms (i + 1) (at + get_or ns i 0)
+  can_over =
+      let e = total_cons in
+      let f = h.fits in
+      record { even = h.even; small = h.small; alike = h.alike; fewer = h.fewer; fits = omega arith }
 
--- what the code knows of the i-th of the first k strokes
-module _ (bars fractals : List ℕ) (k i at : ℕ) (lb : k ≤ length bars) (lf : k ≤ length fractals) (h : i < k) (f : Fewer (take k bars) (take k fractals)) where
-  pub stroke_in_lem : at + total (drop i (take k bars)) ≡ total (take k bars)
-      → (get_or (take k bars) i 0 ≡ get_or bars i 0)
-      × (get_or (take k fractals) i 0 ≡ get_or fractals i 0)
-      × (i < length (take k bars))
-      × (i < length (take k fractals))
-      × (at + get_or fractals i 0 ≤ total (take k bars))
-      × (at + get_or bars i 0 ≤ total (take k bars))
-      × (at + get_or bars i 0 + total (drop (i + 1) (take k bars)) ≡ total (take k bars))
-  stroke_in_lem e =
-      let n = length-take-le k bars lb in
-      let m = length-take-le k fractals lf in
-      let a : i < length (take k bars) = omega arith in
-      let b : i < length (take k fractals) = omega arith in
-      let p : get_or (take k bars) i 0 ≡ get_or bars i 0 = get_or-take k bars i 0 h in
-      let q : get_or (take k fractals) i 0 ≡ get_or fractals i 0 = get_or-take k fractals i 0 h in
-      let g = fewer-at (take k bars) (take k fractals) i f a b in
-      let t = total-step bars k i at lb h e in
-      (p, q, a, b, omega arith, omega arith, t)
+-- ---- the strokes', then those of the unfinished bars
+
+module _ (a a' b b' : List Fractal) where
+  pub front_out : (r : FractalRows) → (f : Fractal) × (r ≡ rows_of f) × (a ≡ f ∷ a') → GivesRows (a ++ b) (Some r) (a' ++ b)
+  front_out r h = (h.0, h.1, ap (λ (x : List Fractal). x ++ b) h.2)
+
+  pub back_out : (r : FractalRows) (f : Fractal) → r ≡ rows_of f → (a ≡ []) × (a' ≡ []) → b ≡ f ∷ b' → GivesRows (a ++ b) (Some r) (a' ++ b')
+  back_out r f q e h = (f, q, (λ i. e.0 i ++ h i) ∙ ap (λ (x : List Fractal). f ∷ x ++ b') (sym e.1))
+
+  pub all_out : (a ≡ []) × (a' ≡ []) → (b ≡ []) × (b' ≡ []) → GivesRows (a ++ b) None (a' ++ b')
+  all_out e h = ((λ i. e.0 i ++ h.0 i), (λ i. e.1 i ++ h.1 i))
+
+-- ---- whether it is listed
+
+module _ (p : Option ℤ) (l m : List Fractal) (r : FractalRows) (t : ℤ) (h : t ≡ get_or r.stamps 1 (pos 0)) (g : (f : Fractal) × (r ≡ rows_of f) × (l ≡ f ∷ m)) where
+  time_is : time_of g.0 ≡ t
+  unfolding rows_of stamp_row stamps_of time_of
+  time_is = ap (λ (x : FractalRows). get_or x.stamps 1 (pos 0)) (sym g.1) ∙ sym h
+
+  step_is : later_than p l ≡ list_if (is_after p t) g.0 p (λ q. later_than q m)
+  unfolding later_than
+  step_is = ap (later_than p) g.2 ∙ ap (λ (x : ℤ). list_if (is_after p x) g.0 p (λ q. later_than q m)) time_is
+
+  pub listed_here : is_after p t ≡ true → map rows_of (later_than p l) ≡ r ∷ map rows_of (later_than (some t) m)
+  unfolding list_if
+  listed_here e =
+      ap (map rows_of) (step_is ∙ ap (λ (b : Bool). list_if b g.0 p (λ q. later_than q m)) e)
+      ∙ (λ i. sym g.1 i ∷ map rows_of (later_than (some (time_is i)) m))
+
+  pub left_out : is_after p t ≡ false → later_than p l ≡ later_than p m
+  unfolding list_if
+  left_out e = step_is ∙ ap (λ (b : Bool). list_if b g.0 p (λ q. later_than q m)) e
+
+-- from one state of the walk to the next
+module _ (s t : FxList) (r : FractalRows) (u : ℤ) (h : u ≡ get_or r.stamps 1 (pos 0)) (g : (f : Fractal) × (r ≡ rows_of f) × (all_left s ≡ f ∷ all_left t)) (e : t.last ≡ s.last) where
+  pub listed_next : is_after (time_of_last t.last) u ≡ true → rows_left s ≡ r ∷ rows_left (record { strokes = t.strokes; unfinished = t.unfinished; last = Some u })
+  unfolding rows_left listed_left all_left time_of_last
+  listed_next k =
+      ap (λ (o : Std.Option ℤ). map rows_of (later_than (time_of_last o) (all_left s))) (sym e)
+      ∙ listed_here (time_of_last t.last) (all_left s) (all_left t) r u h g k
+
+  pub left_next : is_after (time_of_last t.last) u ≡ false → listed_left t ≡ listed_left s
+  unfolding listed_left
+  left_next k =
+      sym (left_out (time_of_last t.last) (all_left s) (all_left t) r u h g k)
+      ∙ ap (λ (o : Std.Option ℤ). later_than (time_of_last o) (all_left s)) e
+
+pub none_listed : (w : FxList) → all_left w ≡ [] → listed_left w ≡ []
+unfolding listed_left later_than
+none_listed w e = ap (later_than (time_of_last w.last)) e

@@ -1,21 +1,22 @@
 -- What a sound stand gives get_fx_list, and that the elements of fractals' bars, which are not stored, are no part of its answer. Assumes nothing.
-use Prim.Native.Nat.{ℕ}
+use Prim.Native.Nat.{ℕ, ◌≤◌, ◌<◌}
 use native.Mathlib.Omega.{arith}
 use mathlib.Core.Path.{◌≡◌, refl, ap, sym, ◌∙◌, subst}
 use mathlib.Core.Bool.{Bool, true, false, ◌&&◌}
 use mathlib.Core.List.{List, [], ◌∷◌, ◌++◌, map, map-append}
 use mathlib.Core.Option.{Option, none, some}
 use lib.ListN.{length, take, length-map}
+use lib.Seq.{length-take-le}
 use lib.IntN.{ℤ}
 use lib.Ieee.{Float}
 use Rattle.bars.specs.Bars.{Merged}
-use Rattle.stores.specs.Stores.{MergedStore, raw_part, raw_bars, merged_bars}
+use Rattle.stores.specs.Stores.{RawStore, MergedStore, raw_part, raw_bars, merged_bars}
 use Rattle.stores.specs.Code.StoreRows.{SizedMerged}
 use Rattle.stores.proofs.Columns.{merged-bars}
 use Rattle.stores.proofs.KeptBars.{map-take}
 use Rattle.machine.specs.Fractals.{Fractal, time_of, check_fxs, fxs_after}
 use Rattle.strokes.specs.declared.Stand.{Stand}
-use Rattle.strokes.specs.StateRead.{state_of, stored_fractals, bar_counts, fractal_counts, bare_bar, bare_fractal}
+use Rattle.strokes.specs.StateRead.{state_of, stored_fractals, bar_counts, fractal_counts, total, bare_bar, bare_fractal}
 use Rattle.strokes.specs.Lent.{Stores, FractalStore, fractal_store}
 use Rattle.strokes.specs.Code.StrokeSteps.{plain_bar, fractals_between}
 use Rattle.strokes.specs.FractalRows.{stamp_row, price_row, pasted, put_fractals}
@@ -28,12 +29,13 @@ use Rattle.question4.proofs.Question4Passed.{is-sound}
 use Rattle.std.proofs.Common.{Result, Err, IsErrAnd}
 use Rattle.bars.specs.declared.refusals.Question.{Question}
 use Rattle.reports.specs.FractalList.{is_after, list_if, later_than, stroke_fxs, get_fx_list}
-use Rattle.reports.specs.Code.FxListing.{stroke_rows}
+use Rattle.reports.specs.Code.FxListing.{stroke_rows, CanRead}
 use Rattle.reports.specs.FxAnswers.{fits_all, listed_by, output_by, FxDone, fx_list_of}
-use Rattle.reports.specs.Code.FxRows.{all_rows, CanGo}
+use Rattle.reports.proofs.FxRows.{all_rows, CanGo}
 use Rattle.reports.specs.FirstQuestions.{if_sound}
 use Rattle.reports.proofs.FirstLaws.{unsound, sound_no}
 use Rattle.reports.proofs.FxListed.{strokes_are}
+use Rattle.reports.proofs.FxPasses.{windows_few, rows_few, later_few}
 
 -- ---- without elements
 
@@ -119,6 +121,20 @@ module _ (s : Stand) (m : Stores) (lb : length s.bars ≡ 65) (lf : length s.fra
         few = omega arith;
       }
 
+  -- the walk over the strokes' rows may begin
+  pub can_read : CanRead m.fractals (take s.strokes s.bars) (take s.strokes s.fractals) 0 0
+  unfolding bar_counts fractal_counts
+  can_read =
+      let g = can_go in
+      let few = g.strokes in
+      record {
+        even = g.same;
+        small = g.small;
+        alike = length-take-le s.strokes s.fractals (omega arith) ∙ sym (length-take-le s.strokes s.bars (omega arith));
+        fewer = g.fewer;
+        fits = let f : total (take s.strokes s.bars) ≤ length m.fractals.stamps = g.fits in omega arith;
+      }
+
   rows_alike : map bare_fractal (all_rows s (raw_part m.unfinished) m.fractals) ≡ map bare_fractal (stroke_fxs (state_of s m).strokes ++ check_fxs (state_of s m).unfinished)
   unfolding all_rows state_of
   rows_alike =
@@ -153,3 +169,32 @@ fx_no t l d e r h g =
 pub fx_yes : (s : Stand) (m : Stores) → length s.bars ≡ 65 → length s.fractals ≡ 65 → question4 s m ≡ true → (d d' : FractalStore) (r : Result ℕ Question)
     → FxDone true (later_than none (all_rows s (raw_part m.unfinished) m.fractals)) d d' r → FxDone (question4 s m) (fx_list_of (state_of s m)) d d' r
 fx_yes s m lb lf e d d' r k = subst (λ (t : Bool). FxDone t (fx_list_of (state_of s m)) d d' r) (sym e) (sound_done s m lb lf (is-sound s m e) d d' r k)
+
+-- what is listed of the walks over the rows
+pub all_are : (s : Stand) (m : Stores) (l a b : List Fractal) → l ≡ later_than none (a ++ b) → a ≡ stroke_rows (take s.strokes s.bars) (take s.strokes s.fractals) (stored_fractals m.fractals)
+    → b ≡ fractals_between (raw_part m.unfinished) 0 s.unfinished → l ≡ later_than none (all_rows s (raw_part m.unfinished) m.fractals)
+unfolding all_rows bar_counts fractal_counts
+all_are s m l a b e p q = e ∙ (λ i. later_than none (p i ++ q i))
+
+pub all_few : (s : Stand) (m : Stores) (l : List Fractal) → CanGo s (raw_part m.unfinished) m.fractals → l ≡ later_than none (all_rows s (raw_part m.unfinished) m.fractals) → length l < 4294967296
+all_few s m l h e =
+    let a = later_few none (all_rows s (raw_part m.unfinished) m.fractals) in
+    let b = rows_few s (raw_part m.unfinished) m.fractals h in
+    let q = ap length e in
+    omega arith
+
+-- the same without strokes
+pub can_read_none : (f : FractalStore) → length f.prices ≡ length f.stamps → length f.stamps ≤ 65536 → CanRead f [] [] 0 0
+unfolding total
+can_read_none f e h = record { even = e; small = h; alike = refl; fewer = tt; fits = omega arith }
+
+pub bars_are : (u : RawStore) (n : ℕ) (F l a b : List Fractal) → l ≡ later_than none (a ++ b) → a ≡ stroke_rows [] [] F → b ≡ fractals_between u 0 n → l ≡ later_than none (fractals_between u 0 n)
+unfolding stroke_rows
+bars_are u n F l a b e p q = e ∙ (λ i. later_than none (p i ++ q i))
+
+pub bars_few : (u : RawStore) (n : ℕ) (l : List Fractal) → n ≤ 65536 → l ≡ later_than none (fractals_between u 0 n) → length l < 4294967296
+bars_few u n l h e =
+    let a = later_few none (fractals_between u 0 n) in
+    let b = windows_few u n in
+    let q = ap length e in
+    omega arith

@@ -1,20 +1,17 @@
--- The output that the listed fractals are written to. Assumes nothing.
+-- The output that the rows of the listed fractals are written to. Assumes nothing.
 use Prim.Native.Nat.{ℕ, suc, ◌+◌, ◌<◌}
 use native.Mathlib.Omega.{arith}
 use mathlib.Core.Path.{◌≡◌, refl, ap, sym, ◌∙◌}
-use mathlib.Core.Bool.{Bool, true, false}
 use mathlib.Core.List.{List, [], ◌∷◌, ◌++◌, map, append-nil}
-use mathlib.Core.Option.{Option, some}
-use lib.ListN.{length, take, drop, set, length-set, take-append-drop}
+use lib.ListN.{length, take, drop, set, take-append-drop}
 use lib.Seq.{take-suc-set, drop-set-lt, append_snoc}
 use lib.IntN.{ℤ}
-use Rattle.machine.specs.Fractals.{Fractal, time_of}
-use Rattle.strokes.specs.Lent.{fractal_store}
-use Rattle.strokes.specs.FractalRows.{stamps_of, stamp_row, price_row, pasted, put_fractals}
-use Rattle.reports.specs.FractalList.{is_after, list_if, later_than}
-use Rattle.reports.specs.Code.FxListing.{time_listed, Listing, store_if, step_if, step_row, step_fx, step_all, CanList}
-use Rattle.reports.proofs.FxLaws.{can_next, count-all}
-use Rattle.reports.proofs.FxListed.{last-next}
+use lib.Ieee.{Float}
+use Rattle.machine.specs.Fractals.{Fractal}
+use Rattle.strokes.specs.Lent.{FractalStore, fractal_store}
+use Rattle.strokes.specs.FractalRows.{stamp_row, price_row, pasted, put_fractals}
+use Rattle.reports.specs.declared.fx_list.FractalRows.{FractalRows}
+use Rattle.reports.specs.Code.FxListing.{rows_of}
 
 put_none : {A : Type 0} (d : List A) (c : ℕ) → d ≡ pasted d c []
 unfolding pasted
@@ -31,30 +28,36 @@ put_next {A} d c r l h =
     let b : drop (c + 1 + length l) (set d c r) ≡ drop (c + suc (length l)) d = drop-set-lt (c + 1 + length l) d c r (omega arith) ∙ ap (λ (k : ℕ). drop k d) n in
     λ i. a i ++ b i
 
-abbrev Written : Listing → List Fractal → Type 0
-Written x fs = (step_all true x fs).store ≡ put_fractals x.store x.listed.count (later_than (time_listed x.listed) fs)
+-- the output with these rows from place `at` on
+abbrev pub put_rows : FractalStore → ℕ → List FractalRows → FractalStore
+put_rows d at l = fractal_store (pasted d.stamps at (map (λ (r : FractalRows). r.stamps) l)) (pasted d.prices at (map (λ (r : FractalRows). r.prices) l))
 
-written_if : (b : Bool) (x : Listing) (f : Fractal) (fs : List Fractal) → is_after (time_listed x.listed) (time_of f) ≡ b
-    → ((y : Listing) → CanList true y fs → Written y fs) → CanList true x (f ∷ fs) → CanList true (step_if b true x (stamp_row f) (price_row f)) fs
-    → (step_all true (step_if b true x (stamp_row f) (price_row f)) fs).store ≡ put_fractals x.store x.listed.count (list_if b f (time_listed x.listed) (λ q. later_than q fs))
-unfolding step_if store_if list_if time_listed time_of put_fractals stamp_row stamps_of
-written_if true x f fs e h g k =
-    let y = step_if true true x (stamp_row f) (price_row f) in
-    let c = x.listed.count in
-    let m = count-all false y fs in
-    let r = k.room refl in
-    let u = r.stamps in
-    let v = r.prices in
-    let l = later_than (some (time_of f)) fs in
-    let su = length-set x.store.stamps c (stamp_row f) in
-    let sv = length-set x.store.prices c (price_row f) in
-    h y k
-    ∙ ap (λ (o : Option ℤ). put_fractals y.store (c + 1) (later_than o fs)) (last-next c (time_of f))
-    ∙ (λ i. fractal_store (put_next x.store.stamps c (stamp_row f) (map stamp_row l) (omega arith) i) (put_next x.store.prices c (price_row f) (map price_row l) (omega arith) i))
-written_if false x f fs e h g k = h x k
+pub put_end : (d : FractalStore) (at : ℕ) (l : List FractalRows) → l ≡ [] → put_rows d at l ≡ d
+put_end d at l e = ap (put_rows d at) e ∙ (λ i. fractal_store (sym (put_none d.stamps at) i) (sym (put_none d.prices at) i))
 
--- it has the rows of those that are later, from the place of the next one on
-pub written_are : (x : Listing) (fs : List Fractal) → CanList true x fs → Written x fs
-unfolding step_all step_fx step_row later_than time_of stamp_row stamps_of put_fractals
-written_are x [] h = λ i. fractal_store (put_none x.store.stamps x.listed.count i) (put_none x.store.prices x.listed.count i)
-written_are x (f ∷ fs) h = written_if (is_after (time_listed x.listed) (time_of f)) x f fs refl (λ y. written_are y fs) h (can_next true x f fs h)
+pub put_on : (d : FractalStore) (at : ℕ) (r : FractalRows) (l m : List FractalRows) → l ≡ r ∷ m → at < length d.stamps → at < length d.prices
+    → put_rows (fractal_store (set d.stamps at r.stamps) (set d.prices at r.prices)) (at + 1) m ≡ put_rows d at l
+put_on d at r l m e h k =
+    (λ i. fractal_store (put_next d.stamps at r.stamps (map (λ (x : FractalRows). x.stamps) m) h i) (put_next d.prices at r.prices (map (λ (x : FractalRows). x.prices) m) k i))
+    ∙ ap (put_rows d at) (sym e)
+
+-- the same where the place and the next one are known by equations
+pub put_at : (d : FractalStore) (at j k : ℕ) (r : FractalRows) (l m : List FractalRows) → j ≡ at → k ≡ at + 1 → l ≡ r ∷ m → at < length d.stamps → at < length d.prices
+    → put_rows (fractal_store (set d.stamps j r.stamps) (set d.prices j r.prices)) k m ≡ put_rows d at l
+put_at d at j k r l m e f g h p =
+    (λ i. put_rows (fractal_store (set d.stamps (e i) r.stamps) (set d.prices (e i) r.prices)) (f i) m) ∙ put_on d at r l m g h p
+
+stamps_read : (l : List Fractal) → map (λ (r : FractalRows). r.stamps) (map rows_of l) ≡ map stamp_row l
+unfolding rows_of
+stamps_read [] = refl
+stamps_read (f ∷ l) = ap (λ (x : List (List ℤ)). stamp_row f ∷ x) (stamps_read l)
+
+prices_read : (l : List Fractal) → map (λ (r : FractalRows). r.prices) (map rows_of l) ≡ map price_row l
+unfolding rows_of
+prices_read [] = refl
+prices_read (f ∷ l) = ap (λ (x : List (List Float)). price_row f ∷ x) (prices_read l)
+
+-- they are those of the fractals
+pub rows_put : (d : FractalStore) (l : List Fractal) → put_rows d 0 (map rows_of l) ≡ put_fractals d 0 l
+unfolding put_fractals
+rows_put d l = λ i. fractal_store (pasted d.stamps 0 (stamps_read l i)) (pasted d.prices 0 (prices_read l i))

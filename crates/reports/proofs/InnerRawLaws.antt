@@ -2,19 +2,20 @@
 -- Assumes nothing.
 use Prim.Native.Nat.{ℕ, suc, min, ◌+◌, ◌-◌, ◌≤◌, ◌<◌}
 use native.Mathlib.Omega.{arith}
-use mathlib.Core.Path.{◌≡◌, refl, ap, sym, ◌∙◌, subst}
+use mathlib.Core.Path.{◌≡◌, refl, ap, sym, ◌∙◌}
 use mathlib.Core.Bool.{Bool, true, false, ◌&&◌}
 use mathlib.Core.List.{List, [], ◌∷◌, ◌++◌, map, foldl, append-nil}
 use lib.Dec.{T, leb}
-use lib.IntN.{ℤ}
-use lib.ListN.{length, take, drop, get_or, set, length-take, length-drop, length-map, length-append, length-set, take-append-drop, drop_of_length-le}
-use lib.Seq.{take-suc-set, drop-set-lt, drop-cons, append_snoc}
+use lib.IntN.{ℤ, pos}
+use lib.ListN.{length, take, drop, get_or, set, length-take, length-map, length-append, length-set, take-append-drop, drop_of_length-le}
+use lib.Seq.{take-suc-set, drop-set-lt, drop-cons, append_snoc, get_or-take}
+use lib.Ieee.Fits.{and_l, and_r}
 use Rattle.bars.specs.declared.Bar.{Bar}
-use Rattle.bars.specs.Lists.{join}
+use Rattle.bars.specs.Lists.{every, join}
 use Rattle.bars.specs.Merging.{at_times}
 use Rattle.bars.specs.Bars.{row_of}
-use Rattle.stores.specs.Stores.{RawStore, raw_store, MergedStore, zip_with, raw_bars}
-use Rattle.stores.specs.Code.StoreRows.{RoomRaw, set_bar, bar_at, place_of}
+use Rattle.stores.specs.Stores.{RawStore, raw_store, MergedStore, zip_with, raw_bars, bar_of}
+use Rattle.stores.specs.Code.StoreRows.{RoomRaw, set_bar, bar_at, rising, place_of}
 use Rattle.stores.proofs.Columns.{zip-at, zip_longer, zip_length}
 use Rattle.strokes.specs.declared.Stand.{Stand}
 use Rattle.strokes.specs.StateRead.{state_of}
@@ -31,13 +32,15 @@ use Rattle.stores.specs.Columns.{raw_of, SameRaw}
 use Rattle.reports.specs.FirstQuestions.{asked_rows}
 use Rattle.reports.proofs.FirstLaws.{handed_up, rows_by}
 use Rattle.reports.specs.Measures.{get_raw_bars}
-use Rattle.reports.specs.Code.ElementPrices.{elements_in}
-use Rattle.named.specs.Code.NamedRows.{stroke_in, RowsStand, cut, inner_rows}
+use Rattle.reports.specs.Code.ElementPrices.{elements_in, bars_named}
+use Rattle.named.specs.Code.NamedRows.{stroke_in}
 use Rattle.named.specs.ReportQuestions.{nth, question14}
 use Rattle.reports.specs.InnerRawBars.{put_bars, RawBarsListed, listed, places_for, list_if, list_bars, raw_bars_if, raw_bars_at}
-use Rattle.reports.specs.Code.InnerRawSteps.{CanFind, named_bar, Filling, put_named, CanList}
+use Rattle.reports.specs.Code.InnerRawSteps.{Filling, filling, put_one}
+use Rattle.reports.specs.Code.MeasuredRows.{first_raw, InnerIs}
+use Rattle.reports.specs.declared.inner_bars.InnerBars.{InnerBars}
 use Rattle.reports.proofs.MeasureLaws.{inner-elements, at-times, named-place}
-use Rattle.reports.proofs.StrokeColumns.{Lends, elements-named, can_measure, long, two, bars_read_lem, raw-named}
+use Rattle.reports.proofs.StrokeColumns.{Lends, elements-named, long, two, bars_read_lem, raw-named}
 use borrow.Author.Tests.{le-leb, leb-true}
 
 -- ---- bars written one by one
@@ -84,14 +87,13 @@ room-less d m n k h =
     let z = h.prices in
     record { times = omega arith; ids = omega arith; prices = omega arith }
 
-pub fold_put : (s : RawStore) (n : ℕ) (d : RawStore) (k : ℕ) (l : List ℤ) → RoomRaw d (k + length l)
-    → foldl (put_named s n) (record { columns = d; next = k }) l ≡ record { columns = put_bars d k (map (named_bar s n) l); next = k + length l }
-fold_put s n d k [] h = let e : k ≡ k + 0 = omega arith in λ i. record { columns = put_none d k i; next = e i }
-fold_put s n d k (t ∷ l) h =
-    let b = named_bar s n t in
+pub fold_put : (f : ℤ → Bar) (d : RawStore) (k : ℕ) (l : List ℤ) → RoomRaw d (k + length l)
+    → foldl (put_one f) (record { columns = d; next = k }) l ≡ record { columns = put_bars d k (map f l); next = k + length l }
+fold_put f d k [] h = let e : k ≡ k + 0 = omega arith in λ i. record { columns = put_none d k i; next = e i }
+fold_put f d k (t ∷ l) h =
     let e : k + 1 + length l ≡ k + suc (length l) = omega arith in
-    fold_put s n (set_bar d k b) (k + 1) l (room-set d k (k + 1 + length l) b (room-less d (k + suc (length l)) (k + 1 + length l) (omega arith) h))
-    ∙ (λ i. record { columns = put_more d k b (map (named_bar s n) l) (room-less d (k + suc (length l)) (k + 1) (omega arith) h) i; next = e i })
+    fold_put f (set_bar d k (f t)) (k + 1) l (room-set d k (k + 1 + length l) (f t) (room-less d (k + suc (length l)) (k + 1 + length l) (omega arith) h))
+    ∙ (λ i. record { columns = put_more d k (f t) (map f l) (room-less d (k + suc (length l)) (k + 1) (omega arith) h) i; next = e i })
 
 -- ---- elements counted in turn
 
@@ -117,13 +119,7 @@ count-end cs es i sum all q h k =
     let e : length (join (drop i (zip_with take cs es))) ≡ 0 = ap (λ (x : List (List ℤ)). length (join x)) d in
     omega (arith, e, k)
 
--- ---- a bar that is looked up and written
-
--- it stands in every column
-pub find-room : (s : RawStore) (n : ℕ) (t : ℤ) (i : ℕ) → CanFind s n → T (is_time (take n s.times) t) → i ≡ place_of t (take n s.times) → RoomRaw s (i + 1)
-find-room s n t i h g e =
-    let p = named-place (take n s.times) t h.rises g in
-    room-less s n (i + 1) (omega (arith, p, e, length-take n s.times)) h.room
+-- ---- a bar that is written
 
 -- the same columns yet
 pub same_none : (a : RawColumnsMut) → SameRaw a a
@@ -151,15 +147,19 @@ room_same a b m n h r k =
     let p = h.prices_room in
     record { times = omega arith; ids = omega arith; prices = omega arith }
 
-pub put_is : (s d e : RawStore) (k n i : ℕ) (t : ℤ) (b : Bar) → e ≡ set_bar d k b → b ≡ bar_at s i → i ≡ place_of t (take n s.times) → e ≡ set_bar d k (named_bar s n t)
-put_is s d e k n i t b p q r = p ∙ ap (set_bar d k) (q ∙ ap (bar_at s) r)
+-- the next place is behind it
+pub put_next : (f : ℤ → Bar) (d e : RawStore) (at j : ℕ) (t : ℤ) (b : Bar) → e ≡ set_bar d (at + j) b → b ≡ f t → filling e (at + (j + 1)) ≡ put_one f (filling d (at + j)) t
+put_next f d e at j t b p q =
+    let n : at + (j + 1) ≡ at + j + 1 = omega arith in
+    let s = p ∙ ap (set_bar d (at + j)) q in
+    λ i. record { columns = s i; next = n i }
 
 -- ---- a row after the other
 
 -- where the next one goes
-pub next_place : (s : RawStore) (n : ℕ) (w : Filling) (l : List ℤ) → (foldl (put_named s n) w l).next ≡ w.next + length l
-next_place s n w [] = omega arith
-next_place s n w (t ∷ l) = omega (arith, next_place s n (put_named s n w t) l)
+pub next_place : (f : ℤ → Bar) (w : Filling) (l : List ℤ) → (foldl (put_one f) w l).next ≡ w.next + length l
+next_place f w [] = omega arith
+next_place f w (t ∷ l) = omega (arith, next_place f (put_one f w t) l)
 
 module _ (cs : List ℕ) (es : List (List ℤ)) (i : ℕ) (q : length cs ≡ length es) (h : i < length cs) where
   pub rows_next : (k r all : ℕ) → r ≡ k + length (take (get_or cs i 0) (get_or es i [])) → k + length (join (drop i (zip_with take cs es))) ≡ all
@@ -171,10 +171,10 @@ module _ (cs : List ℕ) (es : List (List ℤ)) (i : ℕ) (q : length cs ≡ len
   row_within k all g = omega (arith, row-length cs es i q h, g)
 
 -- all rows are written
-pub rows_put : (s : RawStore) (n : ℕ) (d : RawStore) (w : Filling) (l : List ℤ) → RoomRaw d (length l) → w ≡ foldl (put_named s n) (record { columns = d; next = 0 }) l
-    → w.columns ≡ put_bars d 0 (map (named_bar s n) l)
-rows_put s n d w l r e =
-    ap (λ (x : Filling). x.columns) (e ∙ fold_put s n d 0 l (room-less d (length l) (0 + length l) (omega arith) r))
+pub rows_put : (f : ℤ → Bar) (d : RawStore) (w : Filling) (l : List ℤ) → RoomRaw d (length l) → w ≡ foldl (put_one f) (record { columns = d; next = 0 }) l
+    → w.columns ≡ put_bars d 0 (map f l)
+rows_put f d w l r e =
+    ap (λ (x : Filling). x.columns) (e ∙ fold_put f d 0 l (room-less d (length l) (0 + length l) (omega arith) r))
 
 -- ---- question 14
 
@@ -195,12 +195,12 @@ module _ (bs : List Bar) (d : RawStore) where
   places_yes h = λ i. le-leb (length bs) (length d.times) h.times i && le-leb (length bs) (length d.ids) h.ids i && le-leb (length bs) (length d.prices) h.prices i
 
 -- what list_rows returns, return by return; m is the number of the elements l
-module _ (s : RawStore) (n : ℕ) (l : List ℤ) (d : RawStore) (m : ℕ) (c : m ≡ length l) where
+module _ (f : ℤ → Bar) (l : List ℤ) (d : RawStore) (m : ℕ) (c : m ≡ length l) where
   abbrev bs : List Bar
-  bs = map (named_bar s n) l
+  bs = map f l
 
   many : length bs ≡ m
-  many = length-map l (named_bar s n) ∙ sym c
+  many = length-map l f ∙ sym c
 
   pub list_few : min (min (length d.times) (length d.ids)) (length d.prices) < m → listed (Err OutputRoom) d ≡ list_bars bs d
   unfolding list_bars list_if
@@ -216,40 +216,40 @@ module _ (s : RawStore) (n : ℕ) (l : List ℤ) (d : RawStore) (m : ℕ) (c : m
       (λ i. listed (Ok (sym many i)) (e i))
       ∙ ap (λ (t : Bool). list_if t bs d) (sym (places_yes bs d (room-less d (length l) (length bs) (omega (arith, many, c)) h)))
 
-pub cut_small : {A : Type 0} (a z : ℕ) (l : List A) (n : ℕ) → length l ≤ n → length (cut a z l) ≤ n
-cut_small a z l n h = omega (arith, length-take (z - a) (drop a l), length-drop a l)
-
 -- ---- a stroke that a sound stand keeps
+
+-- a bar of the first n is the same in columns that are cut there
+cut_bar : (s : RawStore) (n i : ℕ) → i < n → bar_at (first_raw n s) i ≡ bar_at s i
+unfolding bar_at
+cut_bar s n i h = λ j. bar_of (get_or-take n s.times i (pos 0) h j) (get_or-take n s.ids i (pos 0) h j) (get_or-take n s.prices i [] h j)
+
+-- so all that elements name are
+cut_bars : (s : RawStore) (n : ℕ) → T (rising (take n s.times)) → (l : List ℤ) → T (every (is_time (take n s.times)) l)
+    → map (λ t. bar_at (first_raw n s) (place_of t (take n s.times))) l ≡ map (λ t. bar_at s (place_of t (take n s.times))) l
+unfolding every
+cut_bars s n r [] h = refl
+cut_bars s n r (t ∷ l) h =
+    let ts = take n s.times in
+    let p = named-place ts t r (and_l (is_time ts t) (every (is_time ts) l) h) in
+    λ j. cut_bar s n (place_of t ts) (omega (arith, p, length-take n s.times)) j ∷ cut_bars s n r l (and_r (is_time ts t) (every (is_time ts) l) h) j
 
 module _ (s : Stand) (m : Stores) (i : ℕ) (r : StrokeRows) (h : Lends s m i r) where
   abbrev k : MergedStore
   k = m.strokes
 
-  -- what the code may count on
-  pub can_list : CanList r s.raw m.raw k.counts k.elements
-  can_list =
-      let f = h.facts in
-      let w = f.strokes in
-      let c = can_measure s m i r h in
-      record {
-        find = record { room = record { times = rw f.raw.times f.few-raw; ids = rw f.raw.ids f.few-raw; prices = rw f.raw.prices f.few-raw }; rises = f.rising-times };
-        stands = subst (RowsStand r) (sym w.counts) h.stands;
-        small = rw w.counts f.room-strokes.to;
-        elements = w.elements ∙ sym w.counts;
-        named = c.named;
-      }
-
-  -- the bars that it lists are the inner raw bars
-  pub bars_are : map (named_bar m.raw s.raw) (elements_in (inner_rows r k.counts) (inner_rows r k.elements)) ≡ get_raw_bars (state_of s m).raw (stroke_in m r)
+  -- the bars that are listed are the inner raw bars
+  pub bars_are : (c : InnerBars) → InnerIs r s.raw m c → bars_named c ≡ get_raw_bars (state_of s m).raw (stroke_in m r)
   unfolding get_raw_bars state_of
-  bars_are =
+  bars_are c w =
       let f = h.facts in
       let n = s.raw in
       let enough = two s m i r h in
       let shown = bars_read_lem s m i r h in
       let l = elements_in (take (r.bars - 2) (drop (r.first + 1) k.counts)) (take (r.bars - 2) (drop (r.first + 1) k.elements)) in
       let all = elements-named m.raw n s.rooms.raw f.raw f.few-raw f.rising-times k s.rooms.strokes r.first r.bars f.strokes h.stands.fits enough (stroke_in m r) shown (raw-named s m i r h) in
-      ap (λ (x : ℕ). map (named_bar m.raw n) (elements_in (take x (drop (r.first + 1) k.counts)) (take x (drop (r.first + 1) k.elements)))) (sym (long s m i r h))
+      (λ j. map (λ t. bar_at (w.raw j) (place_of t (w.raw j).times)) (elements_in (w.counts j) (w.elements j)))
+      ∙ ap (λ (x : ℕ). map (λ t. bar_at (first_raw n m.raw) (place_of t (take n m.raw.times))) (elements_in (take x (drop (r.first + 1) k.counts)) (take x (drop (r.first + 1) k.elements)))) (sym (long s m i r h))
+      ∙ cut_bars m.raw n f.rising-times l all
       ∙ sym (at-times m.raw n s.rooms.raw f.raw f.few-raw f.rising-times l all)
       ∙ ap (at_times (take n (raw_bars m.raw))) (sym (inner-elements k s.rooms.strokes r.first r.bars f.strokes h.stands.fits enough (stroke_in m r) shown))
 
@@ -261,7 +261,6 @@ module _ (s : Stand) (m : Stores) (i : ℕ) (d : RawStore) where
   bars_refused e r lb lf h g =
       elim (rows_by s m i e lb lf g) [ inl w ↦ (λ j. listed ((handed_up r e h ∙ ap Err w.1) j) d) ∙ ap (λ (t : Bool). raw_bars_if t (state_of s m).raw (nth (state_of s m).strokes i) d) (sym w.0) | inr w ↦ (λ j. listed ((handed_up r e h ∙ ap Err w.2) j) d) ∙ (λ j. raw_bars_if (sym w.0 j) (state_of s m).raw (sym w.1 j) d) ]
 
-  pub bars_given : (o : RawBarsListed) (w : StrokeRows) → Lends s m i w → question4 s m ≡ true
-      → o ≡ list_bars (map (named_bar m.raw s.raw) (elements_in (inner_rows w m.strokes.counts) (inner_rows w m.strokes.elements))) d → o ≡ raw_bars_at s m i d
+  pub bars_given : (o : RawBarsListed) (w : StrokeRows) (c : InnerBars) → Lends s m i w → question4 s m ≡ true → InnerIs w s.raw m c → o ≡ list_bars (bars_named c) d → o ≡ raw_bars_at s m i d
   unfolding raw_bars_at raw_bars_if
-  bars_given o w h q e = e ∙ ap (λ (l : List Bar). list_bars l d) (bars_are s m i w h) ∙ (λ j. raw_bars_if (sym q j) (state_of s m).raw (sym h.is j) d)
+  bars_given o w c h q k e = e ∙ ap (λ (l : List Bar). list_bars l d) (bars_are s m i w h c k) ∙ (λ j. raw_bars_if (sym q j) (state_of s m).raw (sym h.is j) d)

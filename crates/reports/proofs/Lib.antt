@@ -16,6 +16,7 @@ pub mod FxWritten
 pub mod WalkLaws
 pub mod UnfinishedAt
 pub mod FxPasses
+pub mod FxRows
 pub mod FxSame
 pub mod UnfinishedFxs
 pub mod InnerRawLaws

@@ -11,11 +11,8 @@ use lib.Dec.{T, ltb, ltb→lt}
 use lib.Ieee.{Float, nan, fits, binary64, sub, div, eq}
 use lib.Ieee.Fits.{and_l, and_r, nan-fits, and_i}
 use Rattle.arith.specs.Sums.{sum_of, plus, zero_f, acceleration_of, snr_of, slope_of}
-use Rattle.arith.specs.Code.Accumulators.{mean_more, fit_more, snr_more, slope_more, mean_start, fit_start, snr_start, slope_start, fit_end, snr_end, slope_end}
+use Rattle.arith.specs.Code.Accumulators.{mean_more, fit_more, snr_more, slope_more, mean_start, fit_start, slope_start, fit_end, snr_end, slope_end}
 use Rattle.arith.specs.declared.sums.MeanSums.{MeanSums}
-use Rattle.arith.specs.declared.sums.FitSums.{FitSums}
-use Rattle.arith.specs.declared.sums.SnrSums.{SnrSums}
-use Rattle.arith.specs.declared.sums.SlopeSums.{SlopeSums}
 use Rattle.arith.specs.Rounding.{round_to}
 use Rattle.arith.proofs.SumLaws.{fold_turn, fold_end, slope-is, acceleration-is, snr-is}
 use Rattle.bars.specs.declared.Bar.{Bar}
@@ -27,13 +24,16 @@ use Rattle.stores.specs.Code.StoreRows.{SizedRaw, SizedMerged, bar_at, rising, p
 use Rattle.stores.proofs.Columns.{zip-at, zip_longer, zip-take, zip-drop, zip_length, raw-length, raw-prices, merged-bars, merged-length}
 use Rattle.stores.proofs.KeptBars.{map-take, kept-named}
 use lib.Signed.{le_z}
-use Rattle.arith.specs.Order.{max_of, min_of}
+use Rattle.arith.specs.Order.{abs_of, max_of, min_of}
 use Rattle.machine.specs.declared.Mark.TheVariants.{D, G}
 use Rattle.machine.specs.Fractals.{Fractal, fx_of}
 use Rattle.machine.specs.Strokes.{Stroke}
 use Rattle.reports.specs.Measures.{change, change_if, volume_of, closes_of, opens_and_closes, snr, power_snr, slope, acceleration, power_price, power_volume, elements_of, measures_with}
-use Rattle.reports.specs.Code.ElementPrices.{end_of, elements_in, prices_at, mean_at, fit_at, snr_at, slope_at, fits_at}
+use Rattle.reports.specs.Code.ElementPrices.{end_of, ends_of, elements_in, prices_at, close_at, open_close_at, open_close, close_fits, taken, inner_start, inner_more, slope_with}
+use Rattle.reports.specs.declared.inner_bars.RawBars.{RawBars}
 use Rattle.reports.specs.declared.measures.StrokeEnd.{StrokeEnd}
+use Rattle.reports.specs.declared.measures.StrokeEnds.{StrokeEnds}
+use Rattle.reports.specs.declared.measures.InnerSums.{InnerSums}
 use Rattle.machine.specs.Break.{high_of, low_of}
 use Rattle.machine.specs.Soundness.{same_time, inner}
 use Rattle.sound.specs.Code.SoundStand.{is_time, at_place, named_rows}
@@ -52,13 +52,25 @@ pub fx_top : (f : Fractal) (e : StrokeEnd) → end_of f ≡ e → e.mark ≡ G �
 unfolding end_of fx_of
 fx_top f e p q = let m : f.mark ≡ G = ap (λ (x : StrokeEnd). x.mark) p ∙ q in sym (ap (λ (x : StrokeEnd). x.high) p) ∙ rw m
 
-pub high_is : (b : Stroke) (s e : StrokeEnd) (r : Float) → r ≡ max_of s.high e.high → end_of b.start ≡ s → end_of b.end ≡ e → r ≡ high_of b
+pub high_is : (b : Stroke) (s : StrokeEnds) (r : Float) → r ≡ max_of s.start.high s.end.high → ends_of b ≡ s → r ≡ high_of b
 unfolding end_of high_of
-high_is b s e r h p q = h ∙ (λ i. max_of (sym p i).high (sym q i).high)
+high_is b s r h p = h ∙ (λ i. max_of (sym p i).start.high (sym p i).end.high)
 
-pub low-is : (b : Stroke) (s e : StrokeEnd) (r : Float) → r ≡ min_of s.low e.low → end_of b.start ≡ s → end_of b.end ≡ e → r ≡ low_of b
+pub low-is : (b : Stroke) (s : StrokeEnds) (r : Float) → r ≡ min_of s.start.low s.end.low → ends_of b ≡ s → r ≡ low_of b
 unfolding end_of low_of
-low-is b s e r h p q = h ∙ (λ i. min_of (sym p i).low (sym q i).low)
+low-is b s r h p = h ∙ (λ i. min_of (sym p i).start.low (sym p i).end.low)
+
+pub start_of : (b : Stroke) (s : StrokeEnds) → ends_of b ≡ s → end_of b.start ≡ s.start
+start_of b s p = ap (λ (x : StrokeEnds). x.start) p
+
+pub stop_of : (b : Stroke) (s : StrokeEnds) → ends_of b ≡ s → end_of b.end ≡ s.end
+stop_of b s p = ap (λ (x : StrokeEnds). x.end) p
+
+-- ---- power price
+
+pub price_is : (d : ℕ) (b : Stroke) (s e r : Float) → s ≡ fx_of b.start → e ≡ fx_of b.end → r ≡ round_to d (abs_of (sub binary64 e s)) → r ≡ power_price d b
+unfolding power_price
+price_is d b s e r p q h = h ∙ (λ i. round_to d (abs_of (sub binary64 (q i) (p i))))
 
 -- ---- change
 
@@ -97,11 +109,9 @@ fold_vols : (s : Float) (ps : List (List Float)) → foldl plus s (vols ps) ≡ 
 fold_vols s [] = refl
 fold_vols s (p ∷ ps) = fold_vols (with_vol s p) ps
 
-pub volume-is : (l : List Merged) (ps : List (List Float)) (i : ℕ) (s : Float) → (length ps ≡ 0 → ⊥) → length ps ≤ i
-    → foldl with_vol s (drop i ps) ≡ foldl with_vol (get_or (get_or ps 0 []) 4 nan) (drop 1 ps) → map (λ k. k.bar.vol) l ≡ vols ps → s ≡ volume_of l
-volume-is l [] i s n h k e = absurd (n refl)
-volume-is l (p ∷ ps) i s n h k e =
-    fold_end with_vol (p ∷ ps) i s (foldl with_vol (get_or p 4 nan) ps) h k ∙ sym (fold_vols (get_or p 4 nan) ps) ∙ volume-some l (get_or p 4 nan) (vols ps) e
+-- of the first row and the rest
+pub volume-is : (l : List Merged) (p : List Float) (ps qs : List (List Float)) (s : Float) → qs ≡ p ∷ ps → s ≡ foldl with_vol (get_or p 4 nan) ps → map (λ k. k.bar.vol) l ≡ vols qs → s ≡ volume_of l
+volume-is l p ps qs s q h e = h ∙ sym (fold_vols (get_or p 4 nan) ps) ∙ volume-some l (get_or p 4 nan) (vols ps) (e ∙ ap vols q)
 
 -- ---- elements, each at its place
 
@@ -111,7 +121,7 @@ named-place ts t r h =
     let k : T (ltb (place_of t ts) (length ts) && same_time (get_or ts (place_of t ts) (pos 0)) t) = subst T (sym (place-named ts t r)) h in
     ltb→lt (place_of t ts) (length ts) (and_l (ltb (place_of t ts) (length ts)) (same_time (get_or ts (place_of t ts) (pos 0)) t) k)
 
-every-at : {A : Type 0} (p : A → Bool) (l : List A) (i : ℕ) (z : A) → i < length l → T (every p l) → T (p (get_or l i z))
+pub every-at : {A : Type 0} (p : A → Bool) (l : List A) (i : ℕ) (z : A) → i < length l → T (every p l) → T (p (get_or l i z))
 unfolding every
 every-at p [] i z h t = absurd (omega arith)
 every-at p (a ∷ l) zero z h t = and_l (p a) (every p l) t
@@ -125,9 +135,6 @@ module _ (row : List ℤ) (count j : ℕ) (h : j < min count (length row)) where
   inside : j < length (take count row)
   inside = omega (arith, length-take count row)
 
-  pub element_named : (ts : List ℤ) → T (every (is_time ts) (take count row)) → T (is_time ts (get_or row j (pos 0)))
-  element_named ts t = subst (λ (x : ℤ). T (is_time ts x)) read (every-at (is_time ts) (take count row) j (pos 0) inside t)
-
   -- a turn of a fold over them
   pub element_turn : {S : Type 0} (f : S → ℤ → S) (s s' e : S) → s' ≡ f s (get_or row j (pos 0)) → foldl f s (drop j (take count row)) ≡ e
       → foldl f s' (drop (j + 1) (take count row)) ≡ e
@@ -136,23 +143,6 @@ module _ (row : List ℤ) (count j : ℕ) (h : j < min count (length row)) where
 pub element_end : {S : Type 0} (f : S → ℤ → S) (row : List ℤ) (count j : ℕ) (s e : S) → min count (length row) ≤ j
     → foldl f s (drop j (take count row)) ≡ e → s ≡ e
 element_end f row count j s e h k = fold_end f (take count row) j s e (omega (arith, length-take count row)) k
-
--- what is left passes, so all do
-module _ (row : List ℤ) (count j : ℕ) (h : j < min count (length row)) where
-  pub element_fits : (f : ℤ → Bool) {P : Type 0} → T (f (get_or row j (pos 0))) → (T (every f (drop j (take count row))) → P) → T (every f (drop (j + 1) (take count row))) → P
-  unfolding every
-  element_fits f k g t =
-      let l = take count row in
-      let c : j + 1 ≡ suc j = omega arith in
-      let x : T (f (get_or l j (pos 0))) = subst (λ (y : ℤ). T (f y)) (sym (read row count j h)) k in
-      let y : T (every f (drop (suc j) l)) = subst (λ (n : ℕ). T (every f (drop n l))) c t in
-      g (subst (λ (r : List ℤ). T (every f r)) (sym (drop-cons l j (pos 0) (inside row count j h))) (and_i (f (get_or l j (pos 0))) (every f (drop (suc j) l)) x y))
-
-pub elements_fit : (f : ℤ → Bool) (row : List ℤ) (count j : ℕ) {P : Type 0} → min count (length row) ≤ j → (T (every f (drop j (take count row))) → P) → P
-unfolding every
-elements_fit f row count j h g =
-    let d : drop j (take count row) ≡ [] = drop_of_length-le (take count row) {i = j} (omega (arith, length-take count row)) in
-    g (subst (λ (r : List ℤ). T (every f r)) (sym d) tt)
 
 -- ---- the elements of all rows
 
@@ -196,56 +186,79 @@ unfolding every
 every_append f [] m s t = t
 every_append f (a ∷ l) m s t = and_i (f a) (every f (l ++ m)) (and_l (f a) (every f l) s) (every_append f l m (and_r (f a) (every f l) s) t)
 
-module _ (cs : List ℕ) (es : List (List ℤ)) (i : ℕ) (q : length cs ≡ length es) (h : i < length cs) where
-  pub row_fits : (f : ℤ → Bool) {P : Type 0} → T (every f (take (get_or cs i 0) (get_or es i []))) → (T (every f (join (drop i (zip_with take cs es)))) → P)
-      → T (every f (join (drop (i + 1) (zip_with take cs es)))) → P
-  unfolding join
-  row_fits f k g t =
-      let l = zip_with take cs es in
-      let c : i + 1 ≡ suc i = omega arith in
-      let x : T (every f (get_or l i [])) = subst (λ (y : List ℤ). T (every f y)) (sym (row_is cs es i q h)) k in
-      let y : T (every f (join (drop (suc i) l))) = subst (λ (n : ℕ). T (every f (join (drop n l)))) c t in
-      g (subst (λ (r : List (List ℤ)). T (every f (join r))) (sym (drop-cons l i [] (row_here cs es i q h))) (every_append f (get_or l i []) (join (drop (suc i) l)) x y))
-
-pub rows_fit : (f : ℤ → Bool) (cs : List ℕ) (es : List (List ℤ)) (i : ℕ) {P : Type 0} → length cs ≡ length es → length cs ≤ i
-    → (T (every f (join (drop i (zip_with take cs es)))) → P) → P
-unfolding join every
-rows_fit f cs es i q h g =
-    let d : drop i (zip_with take cs es) ≡ [] = drop_of_length-le (zip_with take cs es) {i = i} (omega (arith, zip_length take cs es q)) in
-    g (subst (λ (r : List (List ℤ)). T (every f (join r))) (sym d) tt)
-
 -- ---- what the sums give of the raw bars rs, whose prices are those at the places of the elements l
 
-fold_map : {A B S : Type 0} (g : S → B → S) (f : A → B) (s : S) (l : List A) → foldl (λ x a. g x (f a)) s l ≡ foldl g s (map f l)
+pub fold_map : {A B S : Type 0} (g : S → B → S) (f : A → B) (s : S) (l : List A) → foldl (λ x a. g x (f a)) s l ≡ foldl g s (map f l)
 fold_map g f s [] = refl
 fold_map g f s (a ∷ l) = fold_map g f (g s (f a)) l
 
-module _ (rt : List ℤ) (rp : List (List Float)) (l : List ℤ) (rs : List Bar) where
-  pub snr_read : (x : Float) (s : SnrSums) → s ≡ foldl (snr_at rt rp) snr_start l → x ≡ snr_end s
-      → opens_and_closes rs ≡ map (λ t. (get_or (prices_at rt rp t) 0 nan, get_or (prices_at rt rp t) 1 nan)) l → x ≡ snr rs
+-- a part of what a fold carries, which goes on by itself
+fold_part : {A S M : Type 0} (g : S → M) (f : S → A → S) (h : M → A → M) → ((s : S) (a : A) → g (f s a) ≡ h (g s) a) → (s : S) (l : List A) → g (foldl f s l) ≡ foldl h (g s) l
+fold_part g f h q s [] = refl
+fold_part g f h q s (a ∷ l) = fold_part g f h q (f s a) l ∙ ap (λ m. foldl h m l) (q s a)
+
+map_both : {A B C : Type 0} (g : B → C) (f : A → B) (l : List A) → map (λ a. g (f a)) l ≡ map g (map f l)
+map_both g f [] = refl
+map_both g f (a ∷ l) = ap (λ r. g (f a) ∷ r) (map_both g f l)
+
+-- of an open and a close
+abbrev close_of : Float × Float → Float
+close_of p = p.1
+
+-- the closes among opens and closes that elements name
+pub closes_named : (rt : List ℤ) (rp : List (List Float)) (l : List ℤ) (fs : List Float) → fs ≡ map (close_at rt rp) l → fs ≡ map close_of (map (open_close_at rt rp) l)
+closes_named rt rp l fs q = q ∙ map_both close_of (open_close_at rt rp) l
+
+module _ (ps : List (Float × Float)) (rs : List Bar) where
+  pub snr_read : (x : Float) → x ≡ snr_end (foldl inner_more inner_start ps).snr → opens_and_closes rs ≡ ps → x ≡ snr rs
   unfolding snr
-  snr_read x s e f q =
-      f ∙ ap snr_end (e ∙ fold_map snr_more (λ t. (get_or (prices_at rt rp t) 0 nan, get_or (prices_at rt rp t) 1 nan)) snr_start l) ∙ snr-is (map (λ t. (get_or (prices_at rt rp t) 0 nan, get_or (prices_at rt rp t) 1 nan)) l) ∙ ap snr_of (sym q)
+  snr_read x f q = f ∙ ap snr_end (fold_part (λ (s : InnerSums). s.snr) inner_more snr_more (λ s p. refl) inner_start ps) ∙ snr-is ps ∙ ap snr_of (sym q)
 
-  pub acceleration_read : (x : Float) (s : FitSums) → s ≡ foldl (fit_at rt rp) fit_start l → x ≡ fit_end s
-      → closes_of rs ≡ map (λ t. get_or (prices_at rt rp t) 1 nan) l → x ≡ acceleration rs
+  pub acceleration_read : (x : Float) → x ≡ fit_end (foldl inner_more inner_start ps).fit → closes_of rs ≡ map close_of ps → x ≡ acceleration rs
   unfolding acceleration
-  acceleration_read x s e f q =
-      f ∙ ap fit_end (e ∙ fold_map fit_more (λ t. get_or (prices_at rt rp t) 1 nan) fit_start l) ∙ acceleration-is (map (λ t. get_or (prices_at rt rp t) 1 nan) l) ∙ ap acceleration_of (sym q)
+  acceleration_read x f q =
+      f
+      ∙ ap fit_end (fold_part (λ (s : InnerSums). s.fit) inner_more (λ s p. fit_more s (close_of p)) (λ s p. refl) inner_start ps ∙ fold_map fit_more close_of fit_start ps)
+      ∙ acceleration-is (map close_of ps)
+      ∙ ap acceleration_of (sym q)
 
-first_fits : (f : ℤ → Float) (l : List ℤ) → T (every (λ t. fits binary64 (f t)) l) → T (fits binary64 (get_or (map f l) 0 nan))
+first_fits : (ps : List (Float × Float)) → T (every close_fits ps) → T (fits binary64 (get_or (map close_of ps) 0 nan))
 unfolding every
-first_fits f [] t = nan-fits binary64
-first_fits f (a ∷ l) t = and_l (fits binary64 (f a)) (every (λ u. fits binary64 (f u)) l) t
+first_fits [] h = nan-fits binary64
+first_fits (p ∷ ps) h = and_l (fits binary64 p.1) (every close_fits ps) h
 
-module _ (rt : List ℤ) (rp : List (List Float)) (l : List ℤ) (rs : List Bar) where
-  pub slope_read : (x : Float) (m : MeanSums) (s : SlopeSums) → m ≡ foldl (mean_at rt rp) mean_start l → T (every (fits_at rt rp) l)
-      → s ≡ foldl (slope_at rt rp) (slope_start m) l → x ≡ slope_end s → closes_of rs ≡ map (λ t. get_or (prices_at rt rp t) 1 nan) l → x ≡ slope rs
+module _ (ps : List (Float × Float)) (rs : List Bar) where
+  pub slope_read : (x : Float) → T (every close_fits ps) → x ≡ slope_end (foldl slope_with (slope_start (foldl inner_more inner_start ps).mean) ps) → closes_of rs ≡ map close_of ps → x ≡ slope rs
   unfolding slope
-  slope_read x m s d k e f q =
-      let h : ℤ → Float = λ t. get_or (prices_at rt rp t) 1 nan in
-      f ∙ ap slope_end (e ∙ ap (λ (z : MeanSums). foldl (slope_at rt rp) (slope_start z) l) (d ∙ fold_map mean_more h mean_start l) ∙ fold_map slope_more h (slope_start (foldl mean_more mean_start (map h l))) l)
-      ∙ slope-is (map h l) (first_fits h l k) ∙ ap slope_of (sym q)
+  slope_read x k f q =
+      let m = fold_part (λ (s : InnerSums). s.mean) inner_more (λ s p. mean_more s (close_of p)) (λ s p. refl) inner_start ps ∙ fold_map mean_more close_of mean_start ps in
+      f
+      ∙ ap slope_end (ap (λ (z : MeanSums). foldl slope_with (slope_start z) ps) m ∙ fold_map slope_more close_of (slope_start (foldl mean_more mean_start (map close_of ps))) ps)
+      ∙ slope-is (map close_of ps) (first_fits ps k)
+      ∙ ap slope_of (sym q)
+
+-- what a pass took, and that each close fits, where a fold has both
+module _ {S : Type 0} (f : S → Float × Float → S) (r : RawBars) where
+  pub taken-sums : (s e : S) (l : List ℤ) → (e, true) ≡ foldl (taken f r) (s, true) l → e ≡ foldl f s (map (open_close r) l)
+  taken-sums s e l k = ap (λ (x : S × Bool). x.0) k ∙ fold_part (λ (x : S × Bool). x.0) (taken f r) (λ x t. f x (open_close r t)) (λ x t. refl) (s, true) l ∙ fold_map f (open_close r) s l
+
+  flag : (s : S) (b : Bool) (l : List ℤ) → (foldl (taken f r) (s, b) l).1 ≡ (b && every close_fits (map (open_close r) l))
+  unfolding every
+  flag s true [] = refl
+  flag s false [] = refl
+  flag s true (t ∷ l) = flag (f s (open_close r t)) (close_fits (open_close r t)) l
+  flag s false (t ∷ l) = flag (f s (open_close r t)) false l
+
+  pub taken_fits : (s e : S) (l : List ℤ) → (e, true) ≡ foldl (taken f r) (s, true) l → T (every close_fits (map (open_close r) l))
+  taken_fits s e l k = subst T (ap (λ (x : S × Bool). x.1) k ∙ flag s true l) tt
+
+-- a turn of such a fold
+pub taken_turn : {S : Type 0} (f : S → Float × Float → S) (r : RawBars) (s e : S) (t : ℤ) (p : Float × Float) → e ≡ f s p → p ≡ open_close r t → T (close_fits p) → (e, true) ≡ taken f r (s, true) t
+taken_turn f r s e t p k q h = (λ i. ((k ∙ ap (f s) q) i, is-true (close_fits p) h i)) ∙ (λ i. (f s (open_close r t), close_fits (q i)))
+  where
+    is-true : (b : Bool) → T b → true ≡ b
+    is-true true h = refl
+    is-true false h = absurd h
 
 -- ---- all measures put together
 
@@ -274,10 +287,6 @@ module _ {A : Type 0} where
 
 map_part : {A B : Type 0} (f : A → B) (n m : ℕ) (l : List A) → map f (take n (drop m l)) ≡ take n (drop m (map f l))
 map_part f n m l = map-take f n (drop m l) ∙ ap (take n) (map-drop f m l)
-
-map_both : {A B C : Type 0} (g : B → C) (f : A → B) (l : List A) → map (λ a. g (f a)) l ≡ map g (map f l)
-map_both g f [] = refl
-map_both g f (a ∷ l) = ap (λ r. g (f a) ∷ r) (map_both g f l)
 
 zip-elements : (bs : List Bar) (cs : List ℕ) (es : List (List ℤ)) → length bs ≡ length cs → map (λ k. k.elements) (zip_with (λ f e. f e) (zip_with with_first bs cs) es) ≡ zip_with take cs es
 unfolding zip_with with_first

@@ -1,7 +1,7 @@
 -- What the fractal in a row of a stroke shows, and that a stroke's start and end stand in their rows. Assumes nothing.
 use Prim.Native.Nat.{ℕ, ◌+◌, ◌-◌, ◌*◌, ◌/◌, ◌<◌}
 use native.Mathlib.Omega.{arith}
-use mathlib.Core.Path.{◌≡◌, refl, ap, sym, ◌∙◌}
+use mathlib.Core.Path.{◌≡◌, refl, ap, sym, subst, ◌∙◌}
 use mathlib.Core.List.{List, []}
 use lib.ListN.{length, take, drop, get_or}
 use lib.Seq.{get_or-take, get_or-drop}
@@ -20,7 +20,9 @@ use Rattle.named.specs.declared.stroke_rows.StrokeRows.{StrokeRows}
 use Rattle.reports.specs.declared.measures.StrokeEnd.{StrokeEnd}
 use Rattle.reports.specs.declared.fractal_answers.FractalAnswers.{FractalAnswers}
 use Rattle.reports.specs.FractalAnswers.{answers_of}
-use Rattle.reports.specs.Code.ElementPrices.{end_of}
+use Rattle.reports.specs.declared.inner_bars.InnerBars.{InnerBars}
+use Rattle.reports.specs.Code.ElementPrices.{end_of, InColumns, Shows}
+use Rattle.reports.specs.Code.MeasuredRows.{InnerIs, ShownBy}
 use Rattle.named.specs.Code.NamedRows.{rows_of, end_row, stroke_in, RowsStand}
 use Rattle.named.proofs.StrokeAt.{fractals-length, fractal-row}
 
@@ -92,3 +94,18 @@ pub row-answers : (p : List Float) (k : Mark) (a b c : Bar) (r : FractalAnswers)
 unfolding row_mark row_fractal fractal_of row_bar
 row-answers p k a b c r e ek ea eb ec =
     e ∙ (λ i. answers_of (record { mark = ek i; left = record { bar = ea i; elements = [] }; mid = record { bar = eb i; elements = [] }; right = record { bar = ec i; elements = [] } }))
+
+-- ---- a stroke's rows
+
+-- what is made of them shows the stroke that they show
+pub shows : (raw : List Bar) (b : Stroke) (r : StrokeRows) (n : ℕ) (m : Stores) (e : ℕ) (x y : StrokeEnd) (c : InnerBars) → x ≡ end_of (row_fractal [] (get_or m.fractals.prices r.first []))
+    → y ≡ end_of (row_fractal [] (get_or m.fractals.prices e [])) → e ≡ end_row r → InnerIs r n m c → ShownBy raw b r n m
+    → Shows (record { ends = record { start = x; end = y }; bars = r.bars; inner = c }) raw b
+shows raw b r n m e x y c p q f w k =
+    let stop = k.ends ∙ sym (q ∙ ap (λ (i : ℕ). end_of (row_fractal [] (get_or m.fractals.prices i []))) f) in
+    let start = k.starts ∙ sym p in
+    record {
+      ends = λ i. record { start = start i; end = stop i };
+      bars = k.count;
+      columns = subst (λ (z : List ℤ × List (List Float) × List (List Float) × List ℕ × List (List ℤ)). InColumns raw b z.0 z.1 z.2 z.3 z.4) (λ i. ((sym w.raw i).times, (sym w.raw i).prices, sym w.prices i, sym w.counts i, sym w.elements i)) k.columns;
+    }

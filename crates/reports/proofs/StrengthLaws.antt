@@ -47,6 +47,10 @@ unfolding power_str strength_at closes_beyond
 tests D l m r = refl
 tests G l m r = refl
 
+-- by their outcomes
+pub strength_by : (f : Fractal) (t u : Bool) → closes_beyond f f.left ≡ t → closes_beyond f f.mid ≡ u → strength_if t u ≡ power_str f
+strength_by f t u e q = (λ i. strength_if (sym e i) (sym q i)) ∙ sym (tests f.mark f.left f.mid f.right)
+
 pub strength_is : (f : Fractal) → IsStrength f (power_str f)
 unfolding power_label
 strength_is f =

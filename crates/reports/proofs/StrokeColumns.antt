@@ -35,7 +35,7 @@ use Rattle.reports.proofs.FirstLaws.{named_is}
 use Rattle.reports.specs.Measures.{get_raw_bars, closes_of, opens_and_closes}
 use Rattle.reports.specs.Code.ElementPrices.{end_of, elements_in, InColumns}
 use Rattle.named.specs.ReportQuestions.{nth}
-use Rattle.reports.specs.Code.MeasuredRows.{CanMeasure, ShownBy}
+use Rattle.reports.specs.Code.MeasuredRows.{CanRead, ShownBy}
 use Rattle.named.specs.Code.NamedRows.{rows_of, end_row, stroke_in, RowsStand, cut}
 use Rattle.reports.proofs.MeasureLaws.{inner-vols, inner-rows, inner-elements, prices_read, every_append}
 use Rattle.named.proofs.StrokeAt.{stroke-at, first-within, rows-stand, bars-length, fractals-length, fractal-row, every-nth}
@@ -48,6 +48,9 @@ part a m l = take m (drop a l)
 -- the same rows cut out of columns of one length
 pub cut_lengths : {A B : Type 0} (a z : ℕ) (l : List A) (m : List B) → length l ≡ length m → length (cut a z l) ≡ length (cut a z m)
 cut_lengths a z l m e = omega (arith, length-take (z - a) (drop a l), length-take (z - a) (drop a m), length-drop a l, length-drop a m)
+
+pub cut_small : {A : Type 0} (a z : ℕ) (l : List A) (n : ℕ) → length l ≤ n → length (cut a z l) ≤ n
+cut_small a z l n h = omega (arith, length-take (z - a) (drop a l), length-drop a l)
 
 every-join : {A : Type 0} (p : A → Bool) (l : List (List A)) → T (every (every p) l) → T (every p (join l))
 unfolding every join
@@ -167,14 +170,15 @@ module _ (s : Stand) (m : Stores) (i : ℕ) (r : StrokeRows) (h : Lends s m i r)
   unfolding state_of
   raw-named = h.named
 
-  -- what the measures may count on
-  pub can_measure : CanMeasure r n m.raw.times m.raw.prices k.prices k.counts k.elements m.fractals.prices
-  can_measure =
+  -- what the code may count on
+  pub can_read : CanRead r n m
+  can_read =
       let f = h.facts in
       let w = f.strokes in
       let e = w.raw.prices in
       record {
         raw = rw f.raw.times f.few-raw;
+        ids = f.raw.ids ∙ sym f.raw.times;
         prices = f.raw.prices ∙ sym f.raw.times;
         stands = subst (RowsStand r) (sym e) h.stands;
         small = rw e f.room-strokes.to;
@@ -188,7 +192,7 @@ module _ (s : Stand) (m : Stores) (i : ℕ) (r : StrokeRows) (h : Lends s m i r)
       }
 
   -- and what they give
-  pub shown_by : ShownBy (state_of s m).raw (stroke_in m r) r n m.raw.times m.raw.prices k.prices k.counts k.elements m.fractals.prices
+  pub shown_by : ShownBy (state_of s m).raw (stroke_in m r) r n m
   unfolding state_of
   shown_by =
       let f = h.facts in

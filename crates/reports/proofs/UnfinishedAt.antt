@@ -1,7 +1,6 @@
 -- The fractal at a place among those of the unfinished bars. Assumes nothing.
-use Prim.Native.Nat.{ℕ, zero, suc, ◌+◌}
-use native.Mathlib.Omega.{arith}
-use mathlib.Core.Path.{◌≡◌, refl, ap, sym, ◌∙◌, subst}
+use Prim.Native.Nat.{ℕ, zero, suc}
+use mathlib.Core.Path.{◌≡◌, refl, ap, sym, ◌∙◌}
 use mathlib.Core.Bool.{Bool, true}
 use mathlib.Core.List.{List, [], ◌∷◌, map}
 use mathlib.Core.Option
@@ -35,27 +34,30 @@ use Rattle.reports.specs.declared.fractal_walk.FractalBars.{FractalBars}
 use Rattle.reports.specs.FractalAnswers.{strength_at, power_str, fractal_volume, has_zs, answers_of}
 use Rattle.named.specs.ReportQuestions.{nth, unfinished_at}
 use Rattle.reports.specs.NamedFractals.{answers_if, unfinished_answers_at}
-use Rattle.reports.specs.Code.FractalWalk.{plain, plain_if, HandsOut}
+use Rattle.std.specs.Option.{option_map}
+use Rattle.std.specs.Prelude.{slice_get}
+use Rattle.reports.specs.Code.FractalWalk.{plain, plain_if}
 use Rattle.reports.proofs.FirstLaws.{sound_no}
 
--- ---- one handed out after the other
+-- ---- the one at a place
 
--- there is none at its place, nor behind it
-pub none_out : (l m : List Fractal) (o : Std.Option FractalBars) (i : ℕ) → HandsOut l o m → o ≡ None → nth l i ≡ none
-unfolding HandsOut nth
-none_out l m o i h e = ap (λ (x : List Fractal). nth x i) (subst (λ (x : Std.Option FractalBars). HandsOut l x m) e h)
+listed_or : Std.Option Fractal → Option Fractal
+listed_or None = none
+listed_or (Some f) = some f
 
-pub first_out : (l m : List Fractal) (o : Std.Option FractalBars) → HandsOut l o m → nth l 0 ≡ plain_if o
-unfolding HandsOut nth plain_if
-first_out l m None h = ap (λ (x : List Fractal). nth x 0) h
-first_out l m (Some f) h = ap (λ (x : List Fractal). nth x 0) h
+nth_read : (l : List Fractal) (i : ℕ) → nth l i ≡ listed_or (slice_get l i)
+unfolding nth listed_or
+nth_read [] i = refl
+nth_read (f ∷ l) zero = refl
+nth_read (f ∷ l) (suc i) = nth_read l i
 
--- with one more behind it
-pub next_out : (l m : List Fractal) (o : Std.Option FractalBars) (f : FractalBars) (i : ℕ) → HandsOut l o m → o ≡ Some f → nth l (i + 1) ≡ nth m i
-unfolding HandsOut nth
-next_out l m o f i h e =
-    let c : i + 1 ≡ suc i = omega arith in
-    (λ t. nth (subst (λ (x : Std.Option FractalBars). HandsOut l x m) e h t) (c t))
+plain_read : (o : Std.Option FractalBars) → listed_or (option_map plain o) ≡ plain_if o
+unfolding plain_if listed_or
+plain_read None = refl
+plain_read (Some f) = refl
+
+pub nth_got : (l : List Fractal) (i : ℕ) (o : Std.Option FractalBars) → option_map plain o ≡ slice_get l i → nth l i ≡ plain_if o
+nth_got l i o e = nth_read l i ∙ ap listed_or (sym e) ∙ plain_read o
 
 -- ---- the fractals of the bars that the store holds
 

@@ -1,7 +1,7 @@
 -- The fractals of a run of bars window by window, each of those taken handed out once. Assumes nothing.
 use Prim.Native.Nat.{ℕ, suc, ◌+◌, ◌≤◌, ◌<◌}
 use native.Mathlib.Omega.{arith}
-use mathlib.Core.Path.{◌≡◌, refl, ap, sym, ◌∙◌, subst}
+use mathlib.Core.Path.{◌≡◌, refl, ap, sym, ◌∙◌}
 use mathlib.Core.Bool.{Bool, true, false, cond}
 use mathlib.Core.List.{List, [], ◌∷◌}
 use mathlib.Core.Option.{Option, none, some}
@@ -11,37 +11,33 @@ use Rattle.std.proofs.Common.{Some, None}
 use Rattle.bars.specs.declared.Bar.{Bar}
 use Rattle.bars.specs.Bars.{Merged}
 use Rattle.stores.specs.Stores.{RawStore}
-use Rattle.stores.specs.declared.lent_columns.RawColumns.{RawColumns}
-use Rattle.stores.specs.Columns.{raw_in}
 use Rattle.stores.specs.Code.StoreRows.{RoomRaw, bar_at}
 use Rattle.machine.specs.declared.Mark.{Mark}
 use Rattle.machine.specs.declared.Mark.TheVariants.{D, G}
 use Rattle.machine.specs.Fractals.{Fractal, is_top, is_bottom, check_fx, taken, push_if, pushed, fxs_after}
+use Rattle.check_bi.specs.declared.check_fx.Candle.{Candle}
+use Rattle.check_bi.specs.Code.Scan.{candle_of, top_of, bottom_of, mark_by, mark_of}
 use Rattle.strokes.specs.Code.StrokeSteps.{plain_bar}
 use Rattle.strokes.proofs.StoredFractals.{plains, plain_cons, none_left}
 use Rattle.reports.specs.declared.fractal_walk.FractalBars.{FractalBars}
-use Rattle.reports.specs.Code.FractalWalk.{plain_of, plain, fractal_if, from_place, window_gives, NextFractal, HandsOut}
+use Rattle.std.specs.Iterator.{MakesProgress, item_count}
+use Rattle.reports.specs.Code.FractalWalk.{plain_of, fractal_if, from_place, window_gives, NextFractal}
 
 -- ---- one window
 
-by_tests : (t u : Bool) (a b c : Bar) (o : Std.Option Mark) → o ≡ cond t (Some G) (cond u (Some D) None)
-    → cond t (some (plain_of G a b c)) (cond u (some (plain_of D a b c)) none) ≡ fractal_if o a b c
-unfolding fractal_if
-by_tests true u a b c o e = ap (λ (x : Std.Option Mark). fractal_if x a b c) (sym e)
-by_tests false true a b c o e = ap (λ (x : Std.Option Mark). fractal_if x a b c) (sym e)
-by_tests false false a b c o e = ap (λ (x : Std.Option Mark). fractal_if x a b c) (sym e)
+by_marks : (t u : Bool) (a b c : Bar) → cond t (some (plain_of G a b c)) (cond u (some (plain_of D a b c)) none) ≡ fractal_if (mark_by t u) a b c
+unfolding fractal_if mark_by
+by_marks true u a b c = refl
+by_marks false true a b c = refl
+by_marks false false a b c = refl
 
-pub mark_top : (a b c : Bar) → is_top a b c ≡ true → check_fx (plain_bar a) (plain_bar b) (plain_bar c) ≡ fractal_if (Some G) a b c
-unfolding check_fx plain_bar fractal_if
-mark_top a b c t = ap (λ (x : Bool). cond x (some (plain_of G a b c)) (cond (is_bottom a b c) (some (plain_of D a b c)) none)) t
-
-pub mark_bottom : (a b c : Bar) → is_top a b c ≡ false → is_bottom a b c ≡ true → check_fx (plain_bar a) (plain_bar b) (plain_bar c) ≡ fractal_if (Some D) a b c
-unfolding check_fx plain_bar fractal_if
-mark_bottom a b c t u = λ i. cond (t i) (some (plain_of G a b c)) (cond (u i) (some (plain_of D a b c)) none)
-
-pub no_mark : (a b c : Bar) → is_top a b c ≡ false → is_bottom a b c ≡ false → check_fx (plain_bar a) (plain_bar b) (plain_bar c) ≡ fractal_if None a b c
-unfolding check_fx plain_bar fractal_if
-no_mark a b c t u = λ i. cond (t i) (some (plain_of G a b c)) (cond (u i) (some (plain_of D a b c)) none)
+-- by the mark that their candles show
+pub mark_is : {x y z : Candle} (o : Std.Option Mark) (a b c : Bar) → x ≡ candle_of (plain_bar a) → y ≡ candle_of (plain_bar b) → z ≡ candle_of (plain_bar c) → o ≡ mark_of x y z
+    → check_fx (plain_bar a) (plain_bar b) (plain_bar c) ≡ fractal_if o a b c
+unfolding check_fx plain_bar candle_of mark_of top_of bottom_of is_top is_bottom
+mark_is o a b c ex ey ez e =
+    by_marks (is_top a b c) (is_bottom a b c) a b c
+    ∙ ap (λ (m : Std.Option Mark). fractal_if m a b c) (sym (e ∙ (λ i. mark_of (ex i) (ey i) (ez i))))
 
 module _ (p : Option Mark) (a b c : Bar) (l : List Merged) where
   abbrev rest : Option Mark → List Fractal
@@ -66,19 +62,6 @@ module _ (p : Option Mark) (a b c : Bar) (l : List Merged) where
   window_taken m e t = cons ∙ ap (λ (o : Option Fractal). pushed p o rest) e ∙ ap (λ (x : Bool). push_if x (plain_of m a b c) p rest) t
 
 -- ---- window by window
-
--- what is handed out is the first of what was left
-pub out_cons : (l m : List Fractal) (o : Std.Option FractalBars) (f : FractalBars) → HandsOut l o m → o ≡ Some f → l ≡ plain f ∷ m
-unfolding HandsOut
-out_cons l m o f h e = subst (λ (x : Std.Option FractalBars). HandsOut l x m) e h
-
-pub out_end : (l m : List Fractal) (o : Std.Option FractalBars) → HandsOut l o m → o ≡ None → l ≡ []
-unfolding HandsOut
-out_end l m o h e = subst (λ (x : Std.Option FractalBars). HandsOut l x m) e h
-
--- the walk goes on over the same bars
-pub walk_room : (b b' : RawColumns) (n n' : ℕ) → b' ≡ b → n' ≡ n → RoomRaw (raw_in b) n → RoomRaw (raw_in b') n'
-walk_room b b' n n' e q h = subst (λ (m : ℕ). RoomRaw (raw_in b') m) (sym q) (subst (λ (x : RawColumns). RoomRaw (raw_in x) n) (sym e) h)
 
 module _ (r : RawStore) (end i : ℕ) (p : Option Mark) (h : RoomRaw r end) (k : i + 2 < end) (a b c : Bar) (ea : a ≡ bar_at r i) (eb : b ≡ bar_at r (i + 1)) (ec : c ≡ bar_at r (i + 2)) (o : Std.Option FractalBars)
     (w : (l : List Merged) → fxs_after p (plain_bar a ∷ plain_bar b ∷ plain_bar c ∷ l) ≡ window_gives p o (λ q. fxs_after q (plain_bar b ∷ plain_bar c ∷ l)))
@@ -111,3 +94,14 @@ unfolding from_place
 no_window r end i p l h g =
     let n : length (drop i (plains r end)) ≤ 2 = rw (length-drop, length-take) (omega arith) in
     sym g ∙ none_left p (drop i (plains r end)) n
+
+-- ---- what an iterator's step leaves, where it gives the first of the list of what is left
+
+module _ {S A B : Type 0} (can : S → Type 0) (rest : S → List B) where
+  pub goes_on : (s t : S) (x : A) (b : B) → rest s ≡ b ∷ rest t → can t → MakesProgress can (item_count rest) s (Some x) t
+  goes_on s t x b e k =
+      let n = ap length e in
+      record { on = λ _. (k, tt, omega arith); keeps = k; rests = λ _. tt }
+
+  pub goes_out : (s t : S) → MakesProgress {A = A} can (item_count rest) s None t
+  goes_out s t = record { on = λ _. tt; keeps = tt; rests = λ _. tt }

@@ -1,7 +1,6 @@
 pub mod ElementPrices
 pub mod FractalWalk
 pub mod FxListing
-pub mod FxRows
 pub mod InnerRawSteps
 pub mod ListSteps
 pub mod MeasuredRows

@@ -1,7 +1,6 @@
--- What get_ubi answers of a stand and its lent stores, and how its highest and lowest bar are found in one pass. Definitions only.
-use Rattle.std.specs.Prelude.{Bool, true, false, length, pos, Result, Ok, Err}
+-- What get_ubi answers of a stand and its lent stores. Definitions only.
+use Rattle.std.specs.Prelude.{Bool, true, false, length, Result, Ok, Err}
 use Rattle.std.proofs.Math.Option.{Option, none, some}
-use Rattle.std.specs.Float.{fin}
 use Rattle.bars.specs.declared.Bar.{Bar}
 use Rattle.bars.specs.declared.refusals.Question.{Question}
 use Rattle.bars.specs.declared.refusals.Question.TheVariants.{Sound, Summary}
@@ -14,23 +13,6 @@ use Rattle.question4.specs.Question4.{question4}
 use Rattle.reports.specs.declared.fractal_walk.FractalBars.{FractalBars}
 use Rattle.reports.specs.declared.ubi.UbiSummary.{UbiSummary}
 use Rattle.reports.specs.Unfinished.{Ubi, get_ubi}
-
--- ---- one pass over the raw bars that elements name
-
-unfoldable pub no_bar : Bar
-no_bar =
-    record {
-      time = pos 0;
-      id = pos 0;
-      «open» = fin false 0 (pos 0);
-      close = fin false 0 (pos 0);
-      high = fin false 0 (pos 0);
-      low = fin false 0 (pos 0);
-      vol = fin false 0 (pos 0);
-      amount = fin false 0 (pos 0);
-    }
-
--- ---- the answer
 
 unfoldable pub three_bars : Mark → Bar → Bar → Bar → FractalBars
 three_bars m a b c = record { mark = m; left = a; mid = b; right = c }

@@ -58,11 +58,7 @@ fn fractal_at(bars: RawColumns<'_>, n: usize, place: usize) -> Option<FractalBar
     requires { RoomRaw (raw_in bars) n }
     ensures { nth (fractals_between (raw_in bars.entry) 0 n) place ≡ plain_if result }
 {
-    let mut walk = FractalWalk::new(bars, n);
-    for _passed in 0..place {
-        walk.next()?;
-    }
-    walk.next()
+    FractalWalk::new(bars, n).nth(place)
 }
 
 // The answers of the fractal at a place among those of the unfinished bars. Questions 4 and 13.
@@ -75,6 +71,7 @@ pub fn unfinished_fractal_answers(
 {
     ask_sound(stand, stores)?;
     let bars = stores.unfinished.bars();
+    // Kept: let-else. `ok_or` with `?` was tried in two forms, and what the exit hands up did not prove by itself.
     let Some(f) = fractal_at(bars, stand.unfinished, place) else {
         return Err(Question::Exists);
     };

@@ -15,7 +15,7 @@ use super::first_questions::ask_sound;
 use bars::Question;
 use machine::Direction;
 use named::kept;
-use strokes::{Stand, StoreColumns};
+use strokes::{LastStroke, Stand, StoreColumns};
 
 // ---- get_finished_bis
 
@@ -40,27 +40,33 @@ pub fn get_finished_bis(stand: Stand, stores: StoreColumns<'_>) -> Result<usize,
 
 // ---- last_bi_extend
 
+// Kept: two folds, since they differ in where they begin, in which of two numbers they keep and in the place in a row: one function would take all three for
+// its one line. The rows by their places, 2 for the high and 3 for the low: `[_, _, high, _, _, _]` is no plainer, since the reader has to count the
+// places there as well.
+
 // The greatest high of these rows, from minus infinity.
 fn greatest_high(rows: &[[f64; 6]]) -> f64
     ensures { result ≡ greatest (map (λ p. get_or p 2 nan) rows.now) }
 {
-    rows.iter().fold(-1.0 / 0.0, |h, p| arith::max(h, p[2]))
+    rows.iter()
+        .fold(f64::NEG_INFINITY, |h, p| arith::max(h, p[2]))
 }
 
 // The least low of these rows, from infinity.
 fn least_low(rows: &[[f64; 6]]) -> f64
     ensures { result ≡ least (map (λ p. get_or p 3 nan) rows.now) }
 {
-    rows.iter().fold(1.0 / 0.0, |l, p| arith::min(l, p[3]))
+    rows.iter().fold(f64::INFINITY, |l, p| arith::min(l, p[3]))
 }
 
-// Whether these rows reach beyond a stroke of this direction, high and low.
-fn rows_reach(direction: Direction, high: f64, low: f64, rows: &[[f64; 6]]) -> bool
-    ensures { result ≡ reaches direction high low rows.now }
+// Whether these rows reach beyond a stroke.
+#[tactic(auto, unfolding(crate::specs::Code::ListSteps::reaches))]
+fn rows_reach(b: LastStroke, rows: &[[f64; 6]]) -> bool
+    ensures { result ≡ reaches b.direction b.high b.low rows.now }
 {
-    match direction {
-        Direction::Up => high < greatest_high(rows),
-        Direction::Down => least_low(rows) < low,
+    match b.direction {
+        Direction::Up => b.high < greatest_high(rows),
+        Direction::Down => least_low(rows) < b.low,
     }
 }
 
@@ -76,7 +82,7 @@ fn last_extends(stand: Stand, stores: StoreColumns<'_>) -> bool
     }
     let rows = stores.unfinished.prices;
     let b = strokes::last_stroke(stand, stores.strokes.times, stores.fractals.prices);
-    rows_reach(b.direction, b.high, b.low, &rows[..n])
+    rows_reach(b, &rows[..n])
 }
 
 // Whether the last stroke goes on.

@@ -9,17 +9,16 @@ use named::StrokeRows;
 use strokes::{Stand, StoreColumns};
 
 // Question 4. The contract adds the lengths of the stand's lists of counts.
+// Kept: the lengths as clauses, as in named's contracts: a caller that reads these lists by place has their length from a contract. named::kept has it, and is
+// called in ask_sound for nothing else.
+#[tactic(auto, unfolding(crate::specs::FirstQuestions::if_sound))]
 pub fn ask_sound(stand: Stand, stores: StoreColumns<'_>) -> Result<(), Question>
     ensures value { result ≡ if_sound (question4 stand (stores_in stores.entry)) tt }
     ensures bars { length stand.bars ≡ 65 }
     ensures fractals { length stand.fractals ≡ 65 }
 {
     let _ = named::kept(stand);
-    if question4::is_sound(stand, stores) {
-        Ok(())
-    } else {
-        Err(Question::Sound)
-    }
+    question4::ask(stand, stores)
 }
 
 // The rows of the kept stroke at a place, the oldest at 0. Questions 4 and 13.
@@ -36,5 +35,5 @@ pub fn ask_stroke(
     if named::kept(stand) <= place {
         return Err(Question::Exists);
     }
-    Ok(named::rows_of(stand, place))
+    Ok(StrokeRows::of(stand, place))
 }

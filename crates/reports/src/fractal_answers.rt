@@ -1,10 +1,12 @@
 // The three answers of a fractal. Elements are no part of any answer, so in contracts its bars have none (plain).
 ghost use Rattle.std.specs.Prelude.{◌≡◌};
-ghost use Rattle.reports.specs.FractalAnswers.{strength_if, power_str, IsStrength, fractal_volume, has_zs, answers_of};
+ghost use Rattle.strokes.specs.Code.StrokeSteps.{plain_bar};
+ghost use Rattle.reports.specs.FractalAnswers.{closes_beyond, power_str, IsStrength, fractal_volume, has_zs, answers_of};
 ghost use Rattle.reports.specs.Code.FractalWalk.{plain};
 
 use super::fractal_walk::FractalBars;
 use arith::{max, min};
+use bars::Bar;
 use machine::Mark;
 
 // power_str of the source: how far the third bar closes back.
@@ -20,31 +22,32 @@ pub enum Strength {
 pub struct FractalAnswers {
     pub power_str: Strength,
     pub power_volume: f64,
+    // Kept: a bool, since has_zs of the source answers yes or no, and no value stands beside it that an Option could hold.
     pub has_zs: bool,
 }
 
-fn strength_of(strong: bool, medium: bool) -> Strength
-    ensures { result ≡ strength_if strong medium }
-{
-    if strong {
-        return Strength::Strong;
-    }
-    if medium {
-        return Strength::Medium;
-    }
-    Strength::Weak
-}
-
 impl FractalBars {
-    // After a bottom, the third bar's close against the highs of the first two; after a top, against their lows.
-    pub fn power_str(self) -> Strength
-        ensures { (result ≡ power_str (plain self)) × IsStrength (plain self) result }
+    // Whether the third bar closes beyond one of the first two: above its high after a bottom, under its low after a top.
+    fn closes_beyond(self, b: Bar) -> bool
+        ensures { result ≡ closes_beyond (plain self) (plain_bar b) }
     {
         let close = self.right.close;
         match self.mark {
-            Mark::D => strength_of(self.left.high < close, self.mid.high < close),
-            Mark::G => strength_of(close < self.left.low, close < self.mid.low),
+            Mark::D => b.high < close,
+            Mark::G => close < b.low,
         }
+    }
+
+    pub fn power_str(self) -> Strength
+        ensures { (result ≡ power_str (plain self)) × IsStrength (plain self) result }
+    {
+        if self.closes_beyond(self.left) {
+            return Strength::Strong;
+        }
+        if self.closes_beyond(self.mid) {
+            return Strength::Medium;
+        }
+        Strength::Weak
     }
 
     // The vol of the three bars, added from the first.
@@ -55,15 +58,16 @@ impl FractalBars {
     }
 
     // The greatest low is at most the least high: folds from the infinities, as the source has them.
+    // Kept: three calls each, since a fold would first need an array of the three lows, and one of the three highs, to say the same.
     pub fn has_zs(self) -> bool
         ensures { result ≡ has_zs (plain self) }
     {
         let zd = max(
-            max(max(-1.0 / 0.0, self.left.low), self.mid.low),
+            max(max(f64::NEG_INFINITY, self.left.low), self.mid.low),
             self.right.low,
         );
         let zg = min(
-            min(min(1.0 / 0.0, self.left.high), self.mid.high),
+            min(min(f64::INFINITY, self.left.high), self.mid.high),
             self.right.high,
         );
         zd <= zg

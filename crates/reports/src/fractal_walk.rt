@@ -1,13 +1,13 @@
 // The fractals of a run of bars one by one, as check_fxs takes them.
-ghost use Rattle.std.specs.Prelude.{ℕ, ◌≡◌, ◌≤◌, ◌+◌};
+ghost use Rattle.std.specs.Prelude.{◌≡◌, ◌+◌};
 ghost use Rattle.bars.specs.Bars.{Merged};
 ghost use mathlib.Core.List.{List, ◌∷◌};
 ghost use Rattle.stores.specs.Columns.{raw_in};
 ghost use Rattle.stores.specs.Code.StoreRows.{RoomRaw};
-ghost use Rattle.machine.specs.Fractals.{taken, check_fx, fxs_after};
-ghost use Rattle.check_bi.specs.Code.Scan.{candle_of};
-ghost use Rattle.strokes.specs.Code.StrokeSteps.{plain_bar, fractals_between};
-ghost use Rattle.reports.specs.Code.FractalWalk.{fractal_if, mark_of, from_place, left, HandsOut, window_gives, NextFractal};
+ghost use Rattle.machine.specs.Fractals.{fxs_after};
+ghost use Rattle.strokes.specs.Code.StrokeSteps.{plain_bar, last_mark, fractals_between};
+ghost use Rattle.std.specs.Iterator.{YieldsFirstBy, item_count};
+ghost use Rattle.reports.specs.Code.FractalWalk.{plain, from_place, left, window_gives, NextFractal};
 
 use bars::Bar;
 use check_bi::Candle;
@@ -30,7 +30,7 @@ struct PlacedFractal {
     fractal: FractalBars,
 }
 
-// The bars before place `end`, the place of the next window, and the mark of the last fractal taken, if one was.
+// The fractals of the bars before place `end` that are still to come: the place of the next window, and the mark of the last one taken, if one was.
 #[derive(Clone, Copy)]
 pub struct FractalWalk<'a> {
     bars: RawColumns<'a>,
@@ -41,50 +41,12 @@ pub struct FractalWalk<'a> {
 
 // ---- one window
 
-// Of a bar, what fractals are found by.
-fn candle_of(b: Bar) -> Candle
-    ensures { result ≡ candle_of (plain_bar b) }
-{
-    Candle {
-        time: b.time,
-        high: b.high,
-        low: b.low,
-    }
-}
-
-// The mark of the fractal of these bars, if they form one.
-fn mark_of(a: Bar, b: Bar, c: Bar) -> Option<Mark>
-    ensures { check_fx (plain_bar a) (plain_bar b) (plain_bar c) ≡ fractal_if result a b c }
-{
-    let x = candle_of(a);
-    let y = candle_of(b);
-    let z = candle_of(c);
-    if check_bi::is_top(x, y, z) {
-        return Some(Mark::G);
-    }
-    if check_bi::is_bottom(x, y, z) {
-        return Some(Mark::D);
-    }
-    None
-}
-
-// Whether a fractal of mark m is taken behind the last one taken.
-#[tactic(auto, using(check_bi::proofs::Marks::same_is), unfolding(machine::specs::Fractals::taken, crate::specs::Code::FractalWalk::mark_of))]
-fn is_taken(last: Option<Mark>, m: Mark) -> bool
-    ensures { result ≡ taken (mark_of last) m }
-{
-    match last {
-        Some(p) => p != m,
-        None => true,
-    }
-}
-
 // The fractal of these bars, if it is taken.
 fn fractal_after(last: Option<Mark>, a: Bar, b: Bar, c: Bar) -> Option<FractalBars>
-    ensures { (l : List Merged) → fxs_after (mark_of last) (plain_bar a ∷ plain_bar b ∷ plain_bar c ∷ l) ≡ window_gives (mark_of last) result (λ p. fxs_after p (plain_bar b ∷ plain_bar c ∷ l)) }
+    ensures { (l : List Merged) → fxs_after (last_mark last) (plain_bar a ∷ plain_bar b ∷ plain_bar c ∷ l) ≡ window_gives (last_mark last) result (λ p. fxs_after p (plain_bar b ∷ plain_bar c ∷ l)) }
 {
-    let mark = mark_of(a, b, c)?;
-    if !is_taken(last, mark) {
+    let mark = check_bi::mark_of(Candle::of(a), Candle::of(b), Candle::of(c))?;
+    if last == Some(mark) {
         return None;
     }
     Some(FractalBars {
@@ -98,6 +60,7 @@ fn fractal_after(last: Option<Mark>, a: Bar, b: Bar, c: Bar) -> Option<FractalBa
 // ---- window by window
 
 // The first one that is taken of the windows from place `from` on.
+// Kept: a loop, since find_map would hold these same lines in a closure, of which a contract had to say what the loop's invariant says.
 fn next_fractal(
     bars: RawColumns<'_>,
     end: usize,
@@ -105,7 +68,7 @@ fn next_fractal(
     last: Option<Mark>,
 ) -> Option<PlacedFractal>
     requires { RoomRaw (raw_in bars) end }
-    ensures { NextFractal (raw_in bars.entry) end (from_place (raw_in bars.entry) end (mark_of last) from) result }
+    ensures { NextFractal (raw_in bars.entry) end (from_place (raw_in bars.entry) end (last_mark last) from) result }
 {
     for at in from..end.saturating_sub(2) {
         let a = bars.bar(at);
@@ -122,7 +85,7 @@ fn next_fractal(
 }
 
 impl<'a> FractalWalk<'a> {
-    // Before the first of those of the bars before place `end`.
+    // All those of the bars before place `end`.
     pub fn new(bars: RawColumns<'a>, end: usize) -> Self
         ensures bars { result.bars ≡ bars.entry }
         ensures end { result.end ≡ end }
@@ -135,14 +98,18 @@ impl<'a> FractalWalk<'a> {
             last: None,
         }
     }
+}
 
-    // The next one, if there is one.
-    pub fn next(&mut self) -> Option<FractalBars>
-        requires { RoomRaw (raw_in self.old.bars) self.old.end }
-        ensures out { HandsOut (left self.old) result (left self.new) }
-        ensures bars { self.new.bars ≡ self.old.bars }
-        ensures end { self.new.end ≡ self.old.end }
-    {
+impl<'a> Iterator for FractalWalk<'a> {
+    type Item = FractalBars;
+
+    ghost can_next = { λ s. RoomRaw (raw_in s.bars) s.end };
+
+    ghost next_gives = { YieldsFirstBy plain left };
+
+    ghost remaining = { item_count left };
+
+    fn next(&mut self) -> Option<FractalBars> {
         let found = next_fractal(self.bars, self.end, self.next, self.last)?;
         self.next = found.behind;
         self.last = Some(found.fractal.mark);

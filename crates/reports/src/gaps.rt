@@ -27,6 +27,8 @@ pub fn check_gap_info(
 // All pairs, oldest first, into lent columns: which kind of gap, its edges and ratio, whether it was covered. Kinds 3 and 4 have no
 // ratio (bars, gap_number). Question 14 asks whether each column has a place for each pair; where it has not, nothing is written.
 // How many pairs they are.
+// Kept: columns side by side, with numbers for kinds, since the definition of the answer (gaps_report) is of these columns, as docs/STORES.md has them, and
+// definitions keep their meaning.
 pub fn check_gaps(
     stand: Stand,
     stores: StoreColumns<'_>,

@@ -1,20 +1,18 @@
 // The measures of a stroke.
-ghost use Rattle.std.specs.Prelude.{◌≡◌, ◌<◌, length, take, get_or, pos, T};
+ghost use Rattle.std.specs.Prelude.{◌≡◌, true, get_or, T, Float};
 ghost use mathlib.Core.List.{List, map, foldl};
-ghost use Rattle.std.specs.Float.{nan, binary64};
-ghost use Rattle.std.specs.Float.Ieee.{fits};
-ghost use Rattle.arith.specs.Code.Accumulators.{mean_start, mean_more, fit_start, fit_more, snr_start, snr_more};
+ghost use Rattle.std.specs.Float.{nan};
 ghost use Rattle.bars.specs.Bars.{Merged};
 ghost use Rattle.bars.specs.Lists.{every};
-ghost use Rattle.stores.specs.Code.StoreRows.{rising};
-ghost use Rattle.sound.specs.Code.SoundStand.{is_time, named_rows};
+ghost use Rattle.sound.specs.Code.SoundStand.{is_time};
 ghost use Rattle.machine.specs.Fractals.{Fractal, fx_of};
 ghost use Rattle.machine.specs.Strokes.{Stroke};
 ghost use Rattle.machine.specs.Break.{high_of, low_of};
-ghost use Rattle.reports.specs.Measures.{power_price, volume_of, change as change_of, snr as snr_of, power_snr, slope as slope_of, acceleration as acceleration_of, measures_of};
-ghost use Rattle.reports.specs.Code.ElementPrices.{elements_in, prices_at, slope_at, end_of, InColumns, SumsOver, closes_read, pairs_read};
+ghost use Rattle.reports.specs.Measures.{power_price, volume_of, change as change_of, measures_of};
+ghost use Rattle.reports.specs.Code.ElementPrices.{end_of, ends_of, prices_named, close_fits, taken, inner_start, inner_more, slope_with, Shows};
 ghost use Rattle.bars.specs.declared.Bar.{Bar as BarOf};
 
+use crate::inner_bars::{InnerBars, RawBars};
 use arith::{Accumulator, FitSums, MeanSums, SlopeSums, SnrSums};
 use machine::Mark;
 
@@ -33,7 +31,9 @@ pub struct Measures {
     pub length: usize,
 }
 
-// ---- of the end fractals. All that the measures ask of one: its mark, and high and low of its middle bar.
+// ---- of the end fractals
+
+// All that the measures ask of one: its mark, and high and low of its middle bar.
 #[derive(Clone, Copy)]
 pub struct StrokeEnd {
     pub mark: Mark,
@@ -41,93 +41,74 @@ pub struct StrokeEnd {
     pub low: f64,
 }
 
-// fx: a top's high, a bottom's low.
-fn fx(e: StrokeEnd) -> f64
-    ensures { (f : Fractal) → end_of f ≡ e → result ≡ fx_of f }
-{
-    let mark = e.mark;
-    match mark {
-        Mark::D => e.low,
-        Mark::G => e.high,
+impl StrokeEnd {
+    // fx: a top's high, a bottom's low.
+    // Kept: check_bi's Fx has this match too, but also a place and a time, which a stroke's end has not; one function of a mark, a high and a low would be
+    // called with three values where this match stands.
+    fn fx(self) -> f64
+        ensures { (f : Fractal) → end_of f ≡ self → result ≡ fx_of f }
+    {
+        match self.mark {
+            Mark::D => self.low,
+            Mark::G => self.high,
+        }
     }
 }
 
-// get_high of the source.
-fn high(start: StrokeEnd, end: StrokeEnd) -> f64
-    ensures { (b : Stroke) → end_of b.start ≡ start → end_of b.end ≡ end → result ≡ high_of b }
-{
-    arith::max(start.high, end.high)
+// The fractals on which a stroke begins and ends.
+#[derive(Clone, Copy)]
+pub struct StrokeEnds {
+    pub start: StrokeEnd,
+    pub end: StrokeEnd,
 }
 
-// get_low of the source.
-fn low(start: StrokeEnd, end: StrokeEnd) -> f64
-    ensures { (b : Stroke) → end_of b.start ≡ start → end_of b.end ≡ end → result ≡ low_of b }
-{
-    arith::min(start.low, end.low)
-}
-
-// get_power_price of the source, of the two fx.
-pub fn power_price(places: usize, s: f64, e: f64) -> f64
-    ensures { (b : Stroke) → s ≡ fx_of b.start → e ≡ fx_of b.end → result ≡ power_price places b }
-{
-    arith::round_to_nth_digit(arith::abs(e - s), places)
-}
-
-// get_change of the source, of the two fx.
-pub fn change(places: usize, s: f64, e: f64) -> f64
-    ensures { (b : Stroke) → s ≡ fx_of b.start → e ≡ fx_of b.end → result ≡ change_of places b }
-{
-    if s == 0.0 {
-        return 0.0;
+impl StrokeEnds {
+    // get_high of the source.
+    fn high(self) -> f64
+        ensures { (b : Stroke) → ends_of b ≡ self → result ≡ high_of b }
+    {
+        arith::max(self.start.high, self.end.high)
     }
-    arith::round_to_nth_digit((e - s) / s, places)
-}
 
-// ---- of the merged bars
-
-// The vol of merged bars, which stand in their rows of prices, added from the first; 0.0 where there
-// are none.
-fn volume(ps: &[[f64; 6]]) -> f64
-    ensures { (l : List Merged) → map (λ k. k.bar.vol) l ≡ map (λ p. get_or p 4 nan) ps.now → result ≡ volume_of l }
-{
-    let n = ps.len();
-    if n == 0 {
-        return 0.0;
+    // get_low of the source.
+    fn low(self) -> f64
+        ensures { (b : Stroke) → ends_of b ≡ self → result ≡ low_of b }
+    {
+        arith::min(self.start.low, self.end.low)
     }
-    let p = ps[0];
-    let mut s = p[4];
-    for i in 1..n {
-        let q = ps[i];
-        s = s + q[4];
+
+    // get_power_price of the source.
+    fn power_price(self, places: usize) -> f64
+        ensures { (b : Stroke) → ends_of b ≡ self → result ≡ power_price places b }
+    {
+        arith::round_to_nth_digit(arith::abs(self.end.fx() - self.start.fx()), places)
     }
-    s
+
+    // get_change of the source.
+    fn change(self, places: usize) -> f64
+        ensures { (b : Stroke) → ends_of b ≡ self → result ≡ change_of places b }
+    {
+        let s = self.start.fx();
+        let e = self.end.fx();
+        if s == 0.0 {
+            return 0.0;
+        }
+        arith::round_to_nth_digit((e - s) / s, places)
+    }
 }
 
-// ---- of the inner raw bars. They are read where they stand: each element of a merged bar is looked
-// up among the raw times, and nothing is copied. In contracts the raw bar of the time t is at the
-// place that place_of gives, and its row of prices has open at 0 and close at 1.
+// ---- of the raw bars that the elements of the inner merged bars name. They are read where they stand: each element is looked up
+// among the raw times.
 
-// The row of prices of the raw bar that element j of a row names.
-fn named_prices(rt: &[i64], rp: &[[f64; 6]], row: &[i64], j: usize) -> [f64; 6]
-    requires fact_1 { (j < length row.now) × (length rp.now ≡ length rt.now) }
-    requires fact_2 { T (rising rt.now) }
-    requires fact_3 { T (is_time rt.now (get_or row.now j (pos 0))) }
-    ensures { result ≡ prices_at rt.now rp.now (get_or row.now j (pos 0)) }
-{
-    let n = rt.len();
-    let t = row[j];
-    let at = stores::find_time(rt, n, t);
-    rp[at]
+// Sums that take in raw bars one by one, of each its open and its close.
+trait PriceSums: Copy {
+    ghost taking: { Self → Float × Float → Self };
+
+    fn with(self, open: f64, close: f64) -> Self
+        ensures { result ≡ taking self («open», close) };
 }
 
-// y itself. The contract adds what holds of every float that is read: it is a value of f64.
-fn read(y: f64) -> f64
-    ensures { (result ≡ y) × T (fits binary64 result) }
-{
-    y
-}
-
-// The sums of the first pass over the inner raw bars.
+// The sums of the first pass.
 #[derive(Clone, Copy)]
 struct InnerSums {
     mean: MeanSums,
@@ -137,174 +118,105 @@ struct InnerSums {
 
 impl InnerSums {
     fn new() -> Self
-        ensures { result ≡ record { mean = mean_start; fit = fit_start; snr = snr_start } }
+        ensures { result ≡ inner_start }
     {
-        let mean = MeanSums::new();
-        let fit = FitSums::new();
-        let snr = SnrSums::new();
-        InnerSums { mean, fit, snr }
-    }
-
-    // One raw bar more.
-    fn more(self, p: [f64; 6]) -> Self
-        ensures { (result.mean ≡ mean_more self.mean (get_or p 1 nan)) × (result.fit ≡ fit_more self.fit (get_or p 1 nan)) × (result.snr ≡ snr_more self.snr (get_or p 0 nan, get_or p 1 nan)) × T (fits binary64 (get_or p 1 nan)) }
-    {
-        let m = self.mean;
-        let f = self.fit;
-        let s = self.snr;
-        let y = read(p[1]);
-        let mean = m.more(y);
-        let fit = f.more(y);
-        let snr = s.more(p[0], y);
-        InnerSums { mean, fit, snr }
-    }
-
-    // The raw bars that the first `count` elements of a row name.
-    fn row(self, rt: &[i64], rp: &[[f64; 6]], row: &[i64], count: usize) -> Self
-        requires fact_1 { length rp.now ≡ length rt.now }
-        requires fact_2 { T (rising rt.now) }
-        requires fact_3 { T (every (is_time rt.now) (take count row.now)) }
-        ensures { SumsOver rt.now rp.now self (take count row.now) result }
-    {
-        let n = count.min(row.len());
-        let mut sums = self;
-        for j in 0..n {
-            let p = named_prices(rt, rp, row, j);
-            sums = sums.more(p);
+        InnerSums {
+            mean: MeanSums::new(),
+            fit: FitSums::new(),
+            snr: SnrSums::new(),
         }
-        sums
-    }
-
-    // The raw bars that the elements of these merged bars name.
-    fn rows(self, rt: &[i64], rp: &[[f64; 6]], cs: &[usize], es: &[[i64; 101]]) -> Self
-        requires fact_1 { (length cs.now ≡ length es.now) × (length rp.now ≡ length rt.now) }
-        requires fact_2 { T (rising rt.now) }
-        requires fact_3 { T (named_rows rt.now cs.now es.now) }
-        ensures { SumsOver rt.now rp.now self (elements_in cs.now es.now) result }
-    {
-        let mut sums = self;
-        for i in 0..cs.len() {
-            sums = sums.row(rt, rp, &es[i], cs[i]);
-        }
-        sums
     }
 }
 
-// The second pass, over the closes.
-fn slope_row(s: SlopeSums, rt: &[i64], rp: &[[f64; 6]], row: &[i64], count: usize) -> SlopeSums
-    requires fact_1 { length rp.now ≡ length rt.now }
-    requires fact_2 { T (rising rt.now) }
-    requires fact_3 { T (every (is_time rt.now) (take count row.now)) }
-    ensures { result ≡ foldl (slope_at rt.now rp.now) s (take count row.now) }
+impl PriceSums for InnerSums {
+    ghost taking = { inner_more };
+
+    fn with(self, open: f64, close: f64) -> Self {
+        InnerSums {
+            mean: self.mean.more(close),
+            fit: self.fit.more(close),
+            snr: self.snr.more(open, close),
+        }
+    }
+}
+
+// The slope needs a second pass, over the closes.
+impl PriceSums for SlopeSums {
+    ghost taking = { slope_with };
+
+    fn with(self, _open: f64, close: f64) -> Self {
+        self.more(close)
+    }
+}
+
+// The sums with the raw bars of these times. The contract adds that each close is a value of f64.
+fn with_named<S: PriceSums>(mut sums: S, raw: RawBars<'_>, times: &[i64]) -> S
+    requires { T (every (is_time raw.columns.times.now) times.now) }
+    ensures { (result, true) ≡ foldl (taken S.taking raw.entry) (sums, true) times.now }
 {
-    let n = count.min(row.len());
-    let mut sums = s;
-    for j in 0..n {
-        let p = named_prices(rt, rp, row, j);
-        sums = sums.more(p[1]);
+    for time in times {
+        let (open, close) = raw.open_and_close(*time);
+        sums = sums.with(open, close);
     }
     sums
 }
 
-fn slope_rows(
-    s: SlopeSums,
-    rt: &[i64],
-    rp: &[[f64; 6]],
-    cs: &[usize],
-    es: &[[i64; 101]],
-) -> SlopeSums
-    requires fact_1 { (length cs.now ≡ length es.now) × (length rp.now ≡ length rt.now) }
-    requires fact_2 { T (rising rt.now) }
-    requires fact_3 { T (named_rows rt.now cs.now es.now) }
-    ensures { result ≡ foldl (slope_at rt.now rp.now) s (elements_in cs.now es.now) }
-{
-    let mut sums = s;
-    for i in 0..cs.len() {
-        sums = slope_row(sums, rt, rp, &es[i], cs[i]);
+impl<'a> InnerBars<'a> {
+    // The sums with the raw bars that the elements name.
+    // Kept: by place, see InnerBars::elements_at.
+    fn add_to<S: PriceSums>(self, mut sums: S) -> S
+        ensures value { result ≡ foldl S.taking sums (prices_named self.entry) }
+        ensures fits { T (every close_fits (prices_named self.entry)) }
+    {
+        for i in 0..self.counts.len() {
+            sums = with_named(sums, self.raw, self.elements_at(i));
+        }
+        sums
     }
-    sums
-}
 
-// What the inner raw bars give.
-#[derive(Clone, Copy)]
-struct InnerMeasures {
-    snr: f64,
-    power_snr: f64,
-    slope: f64,
-    acceleration: f64,
-}
-
-// In two passes over the elements of the inner merged bars. Power SNR has `places` places, SNR is not rounded.
-fn inner_measures(
-    places: usize,
-    rt: &[i64],
-    rp: &[[f64; 6]],
-    cs: &[usize],
-    es: &[[i64; 101]],
-) -> InnerMeasures
-    requires fact_1 { (length cs.now ≡ length es.now) × (length rp.now ≡ length rt.now) }
-    requires fact_2 { T (rising rt.now) }
-    requires fact_3 { T (named_rows rt.now cs.now es.now) }
-    ensures { (rs : List BarOf) → closes_read rs rt.now rp.now (elements_in cs.now es.now) → pairs_read rs rt.now rp.now (elements_in cs.now es.now) → (result.snr ≡ snr_of rs) × (result.power_snr ≡ power_snr places rs) × (result.slope ≡ slope_of rs) × (result.acceleration ≡ acceleration_of rs) }
-{
-    let none = InnerSums::new();
-    let s = none.rows(rt, rp, cs, es);
-    let m = s.mean;
-    let f = s.fit;
-    let q = s.snr;
-    let zero = SlopeSums::new(m);
-    let t = slope_rows(zero, rt, rp, cs, es);
-    let snr = q.snr();
-    let power_snr = arith::round_to_nth_digit(snr, places);
-    let slope = t.slope();
-    let acceleration = f.acceleration();
-    InnerMeasures {
-        snr,
-        power_snr,
-        slope,
-        acceleration,
+    // The vol of the merged bars, added from the first; 0.0 where there are none.
+    // Kept: a row's vol by its place, 4 (open, close, high, low, vol, amount): `[_, _, _, _, vol, _]` is no plainer, since the reader has to count the places
+    // there as well.
+    fn volume(self) -> f64
+        ensures { (l : List Merged) → map (λ k. k.bar.vol) l ≡ map (λ p. get_or p 4 nan) self.entry.prices.now → result ≡ volume_of l }
+    {
+        let Some((first, rest)) = self.prices.split_first() else {
+            return 0.0;
+        };
+        rest.iter().fold(first[4], |sum, row| sum + row[4])
     }
 }
 
 // ---- all of them
 
-// The measures of a stroke of this number of merged bars, between these ends: for the stroke b over the
-// raw bars `raw`, which stand in the columns. `power` and `ratio` are the places for power and for ratios.
-pub fn measures_of(
-    power: usize,
-    ratio: usize,
-    rt: &[i64],
-    rp: &[[f64; 6]],
-    sp: &[[f64; 6]],
-    sc: &[usize],
-    se: &[[i64; 101]],
-    bars: usize,
-    start: StrokeEnd,
-    end: StrokeEnd,
-) -> Measures
-    requires fact_1 { (length sc.now ≡ length se.now) × (length rp.now ≡ length rt.now) }
-    requires fact_2 { T (rising rt.now) }
-    requires fact_3 { T (named_rows rt.now sc.now se.now) }
-    ensures { (raw : List BarOf) (b : Stroke) → end_of b.start ≡ start → end_of b.end ≡ end → bars ≡ length b.bars → InColumns raw b rt.now rp.now sp.now sc.now se.now → result ≡ measures_of power ratio raw b }
-{
-    let s = fx(start);
-    let e = fx(end);
-    let h = high(start, end);
-    let w = low(start, end);
-    let p = power_price(power, s, e);
-    let v = volume(sp);
-    let d = change(ratio, s, e);
-    let i = inner_measures(ratio, rt, rp, sc, se);
-    Measures {
-        high: h,
-        low: w,
-        power_price: p,
-        power_volume: v,
-        snr: i.snr,
-        power_snr: i.power_snr,
-        change: d,
-        slope: i.slope,
-        acceleration: i.acceleration,
-        length: bars,
+// A stroke as the measures read it: its ends, how many merged bars it has, and those between the first and the last.
+#[derive(Clone, Copy, Drop)]
+pub struct MeasuredStroke<'a> {
+    pub ends: StrokeEnds,
+    pub bars: usize,
+    pub inner: InnerBars<'a>,
+}
+
+impl<'a> MeasuredStroke<'a> {
+    // For the stroke b over the raw bars `raw`, which it shows. `power` and `ratio` are the places for power and for ratios; SNR is
+    // not rounded.
+    pub fn measures(self, power: usize, ratio: usize) -> Measures
+        ensures { (raw : List BarOf) (b : Stroke) → Shows self.entry raw b → result ≡ measures_of power ratio raw b }
+    {
+        let sums = self.inner.add_to(InnerSums::new());
+        let slopes = self.inner.add_to(SlopeSums::new(sums.mean));
+        let snr = sums.snr.snr();
+        Measures {
+            high: self.ends.high(),
+            low: self.ends.low(),
+            power_price: self.ends.power_price(power),
+            power_volume: self.inner.volume(),
+            snr,
+            power_snr: arith::round_to_nth_digit(snr, ratio),
+            change: self.ends.change(ratio),
+            slope: slopes.slope(),
+            acceleration: sums.fit.acceleration(),
+            length: self.bars,
+        }
     }
 }

@@ -9,44 +9,65 @@ use borrow.Author.Tests.{le-leb, eqb-false}
 use Rattle.bars.specs.Lists.{every, last}
 use Rattle.strokes.specs.declared.Rooms.{Rooms}
 use Rattle.strokes.specs.declared.Stand.{Stand}
-use Rattle.sound.specs.declared.fresh_stand.FreshAnswer.{FreshAnswer}
 use Rattle.machine.specs.FeedQuestions.{or_else}
 use Rattle.machine.specs.Stand.{Settings, fresh}
 use Rattle.machine.specs.Soundness.{is_setting, is_places, settings_pass, rooms_pass, settings_sound, counts_fit, bars_of, few_strokes, raw_pass, merged_pass, rises, bar_times, merged_times, times_rise, strokes_pass, asked, elements_kept, newest_in, newest_last, lists_sound, sound_but, sound}
 use Rattle.strokes.specs.StateRead.{settings_of, state_of, bar_counts, fractal_counts, strokes_with, total, stores_sized, counts_sized, elements_sized, sized}
 use Rattle.strokes.specs.Lent.{Stores}
-use Rattle.sound.specs.FreshStand.{is_asked, or_default, rooms_of, columns_agree, rooms_fit, question17, question3, fresh_failed, empty_stand, no_stand, fresh_by, fresh_of}
+use Rattle.sound.specs.FreshStand.{is_asked, or_default, rooms_of, columns_agree, rooms_fit, question17, question3, fresh_failed, empty_stand, first_stand, no_stand, fresh_by, fresh_of}
 use Rattle.sound.specs.StandSound.{stores_sound}
 use Rattle.arith.proofs.Tests.{and_false}
 
 -- ---- the answer
 
--- the first question that failed, where the third was asked of the rooms and of the columns
-pub failed-is : (minimum most power ratio : ℕ) (m : Stores) (rooms : Rooms) (x y h : Bool) (n : ℕ) → rooms ≡ rooms_of m → x ≡ columns_agree rooms m → y ≡ rooms_fit rooms → h ≡ (x && y)
-    → n ≡ or_else (is_asked minimum) 1 (or_else (is_asked most) 2 (or_else (question17 power ratio) 17 (or_else h 3 0))) → n ≡ fresh_failed minimum most power ratio m
-unfolding fresh_failed question3
-failed-is minimum most power ratio m rooms x y h n r ex ey eh e =
-    let a : x ≡ columns_agree (rooms_of m) m = ex ∙ ap (λ (z : Rooms). columns_agree z m) r in
-    let b : y ≡ rooms_fit (rooms_of m) = ey ∙ ap rooms_fit r in
-    e ∙ ap (λ (t : Bool). or_else (is_asked minimum) 1 (or_else (is_asked most) 2 (or_else (question17 power ratio) 17 (or_else t 3 0)))) (eh ∙ (λ i. a i && b i))
+-- the settings are asked first, and question 3 where they pass
+first_three : (a b c d : Bool) (n : ℕ) → n ≡ or_else a 1 (or_else b 2 (or_else c 17 0)) → (n ≡ 0 → ⊥) → n ≡ or_else a 1 (or_else b 2 (or_else c 17 (or_else d 3 0)))
+unfolding or_else
+first_three true true true d n e z = absurd (z e)
+first_three true true false d n e z = e
+first_three true false c d n e z = e
+first_three false b c d n e z = e
 
--- question 17, as the code asks it
-pub places-asked : (power ratio : ℕ) (x y h : Bool) → x ≡ is_places power → y ≡ is_places ratio → h ≡ (x && y) → h ≡ question17 power ratio
-unfolding question17
-places-asked power ratio x y h p q e = e ∙ (λ i. p i && q i)
+the-last : (a b c d : Bool) → 0 ≡ or_else a 1 (or_else b 2 (or_else c 17 0)) → or_else d 3 0 ≡ or_else a 1 (or_else b 2 (or_else c 17 (or_else d 3 0)))
+unfolding or_else
+the-last true true true d e = refl
+the-last true true false d e = absurd (omega arith)
+the-last true false c d e = absurd (omega arith)
+the-last false b c d e = absurd (omega arith)
 
-pub fresh_yes : (n minimum most power ratio : ℕ) (m : Stores) (rooms : Rooms) (a b : ℕ) (s : Stand) → n ≡ fresh_failed minimum most power ratio m → n ≡ 0 → rooms ≡ rooms_of m
-    → a ≡ or_default minimum 6 → b ≡ or_default most 50 → s ≡ empty_stand a b power ratio rooms
-    → ◌≡◌ {A = FreshAnswer} (record { refused = 0; stand = s }) (fresh_of minimum most power ratio m)
-unfolding fresh_of fresh_by
-fresh_yes n minimum most power ratio m rooms a b s e z r p q h =
-    rw (h, p, q, r) (ap (λ (k : ℕ). fresh_by k minimum most power ratio m) (sym z ∙ e))
+module _ (minimum most power ratio : ℕ) (m : Stores) where
+  pub failed_before : (n : ℕ) → n ≡ or_else (is_asked minimum) 1 (or_else (is_asked most) 2 (or_else (question17 power ratio) 17 0)) → (n ≡ 0 → ⊥) → n ≡ fresh_failed minimum most power ratio m
+  unfolding fresh_failed
+  failed_before = first_three (is_asked minimum) (is_asked most) (question17 power ratio) (question3 m)
 
-pub fresh_no : (n minimum most power ratio : ℕ) (m : Stores) (s : Stand) → n ≡ fresh_failed minimum most power ratio m → (n ≡ 0 → ⊥) → s ≡ no_stand
-    → ◌≡◌ {A = FreshAnswer} (record { refused = n; stand = s }) (fresh_of minimum most power ratio m)
-unfolding fresh_of fresh_by
-fresh_no zero minimum most power ratio m s e z h = absurd (z refl)
-fresh_no (suc n) minimum most power ratio m s e z h = rw h (ap (λ (k : ℕ). fresh_by k minimum most power ratio m) e)
+  pub by_rooms : (rooms : Rooms) (x y t : Bool) → 0 ≡ or_else (is_asked minimum) 1 (or_else (is_asked most) 2 (or_else (question17 power ratio) 17 0)) → rooms ≡ rooms_of m → x ≡ columns_agree rooms m
+      → y ≡ rooms_fit rooms → (x && y) ≡ t → or_else t 3 0 ≡ fresh_failed minimum most power ratio m
+  unfolding fresh_failed question3
+  by_rooms rooms x y t z r ex ey e =
+      let a : columns_agree (rooms_of m) m ≡ x = sym (ex ∙ ap (λ (k : Rooms). columns_agree k m) r) in
+      let b : rooms_fit (rooms_of m) ≡ y = sym (ey ∙ ap rooms_fit r) in
+      let q : (columns_agree (rooms_of m) m && rooms_fit (rooms_of m)) ≡ t = (λ i. a i && b i) ∙ e in
+      ap (λ (k : Bool). or_else k 3 0) (sym q) ∙ the-last (is_asked minimum) (is_asked most) (question17 power ratio) (question3 m) z
+
+failed_by : (n minimum most power ratio : ℕ) (m : Stores) → (fresh_by n minimum most power ratio m).refused ≡ n
+unfolding fresh_by
+failed_by zero minimum most power ratio m = refl
+failed_by (suc n) minimum most power ratio m = refl
+
+begun_by : (n minimum most power ratio : ℕ) (m : Stores) → n ≡ 0 → (fresh_by n minimum most power ratio m).stand ≡ first_stand minimum most power ratio m
+unfolding fresh_by
+begun_by zero minimum most power ratio m z = refl
+begun_by (suc n) minimum most power ratio m z = absurd (omega arith)
+
+-- what a fresh analyzer answers, by the two claims on new_stand
+module _ (minimum most power ratio : ℕ) (m : Stores) where
+  pub refused-is : (fresh_of minimum most power ratio m).refused ≡ fresh_failed minimum most power ratio m
+  unfolding fresh_of
+  refused-is = failed_by (fresh_failed minimum most power ratio m) minimum most power ratio m
+
+  pub begun_is : fresh_failed minimum most power ratio m ≡ 0 → (fresh_of minimum most power ratio m).stand ≡ first_stand minimum most power ratio m
+  unfolding fresh_of
+  begun_is z = begun_by (fresh_failed minimum most power ratio m) minimum most power ratio m z
 
 -- ---- it holds nothing
 
@@ -55,7 +76,7 @@ unfolding state_of empty_stand bar_counts fractal_counts strokes_with fresh
 empty-state minimum most power ratio rooms m = refl
 
 by_failed-state : (minimum most power ratio : ℕ) (m : Stores) (n : ℕ) → state_of (fresh_by n minimum most power ratio m).stand m ≡ fresh
-unfolding fresh_by no_stand
+unfolding fresh_by first_stand no_stand
 by_failed-state minimum most power ratio m zero = empty-state (or_default minimum 6) (or_default most 50) power ratio (rooms_of m) m
 by_failed-state minimum most power ratio m (suc n) = empty-state 0 0 0 0 (record { raw = 0; unfinished = 0; strokes = 0 }) m
 
@@ -67,7 +88,7 @@ fresh-state minimum most power ratio m = by_failed-state minimum most power rati
 
 by_failed-places : (minimum most power ratio : ℕ) (m : Stores) (n : ℕ) → (fresh_by n minimum most power ratio m).refused ≡ 0
     → ((fresh_by n minimum most power ratio m).stand.power_places ≡ power) × ((fresh_by n minimum most power ratio m).stand.ratio_places ≡ ratio)
-unfolding fresh_by empty_stand
+unfolding fresh_by first_stand empty_stand
 by_failed-places minimum most power ratio m zero z = (refl, refl)
 by_failed-places minimum most power ratio m (suc n) z = absurd (omega arith)
 
@@ -133,7 +154,7 @@ agree_sized s m t r e h = sym e ∙ h
 
 by_failed : (minimum most power ratio : ℕ) (m : Stores) (n : ℕ) → n ≡ fresh_failed minimum most power ratio m → (fresh_by n minimum most power ratio m).refused ≡ 0
     → sized (fresh_by n minimum most power ratio m).stand m && sound (settings_of (fresh_by n minimum most power ratio m).stand) (state_of (fresh_by n minimum most power ratio m).stand m) ≡ true
-unfolding fresh_by empty_stand
+unfolding fresh_by first_stand empty_stand
 by_failed minimum most power ratio m zero e z =
     let f = fresh-settings minimum most power ratio m (sym e) in
     let s = empty_stand (or_default minimum 6) (or_default most 50) power ratio (rooms_of m) in
@@ -160,3 +181,17 @@ by_refused minimum most power ratio m (suc n) z = no_sound m
 pub fresh_unsound : (minimum most power ratio : ℕ) (m : Stores) → ((fresh_of minimum most power ratio m).refused ≡ 0 → ⊥) → stores_sound (fresh_of minimum most power ratio m).stand m ≡ false
 unfolding fresh_of
 fresh_unsound minimum most power ratio m = by_refused minimum most power ratio m (fresh_failed minimum most power ratio m)
+
+-- question 17, by its two tests
+pub places-asked : (power ratio : ℕ) (x y h : Bool) → x ≡ is_places power → y ≡ is_places ratio → h ≡ (x && y) → h ≡ question17 power ratio
+unfolding question17
+places-asked power ratio x y h p q e = e ∙ (λ i. p i && q i)
+
+-- the first question that failed, where the third was asked of the rooms and of the columns
+pub failed-is : (minimum most power ratio : ℕ) (m : Stores) (rooms : Rooms) (x y h : Bool) (n : ℕ) → rooms ≡ rooms_of m → x ≡ columns_agree rooms m → y ≡ rooms_fit rooms → h ≡ (x && y)
+    → n ≡ or_else (is_asked minimum) 1 (or_else (is_asked most) 2 (or_else (question17 power ratio) 17 (or_else h 3 0))) → n ≡ fresh_failed minimum most power ratio m
+unfolding fresh_failed question3
+failed-is minimum most power ratio m rooms x y h n r ex ey eh e =
+    let a : x ≡ columns_agree (rooms_of m) m = ex ∙ ap (λ (z : Rooms). columns_agree z m) r in
+    let b : y ≡ rooms_fit (rooms_of m) = ey ∙ ap rooms_fit r in
+    e ∙ ap (λ (t : Bool). or_else (is_asked minimum) 1 (or_else (is_asked most) 2 (or_else (question17 power ratio) 17 (or_else t 3 0)))) (eh ∙ (λ i. a i && b i))

@@ -1,20 +1,27 @@
 -- What the tests of lengths and numbers say of the columns. Assumes nothing.
 use Prim.Native.Nat.{ℕ, ◌≤◌}
-use mathlib.Core.Path.{◌≡◌, sym, ◌∙◌}
-use mathlib.Core.Bool.{true, ◌&&◌}
-use lib.ListN.{length, take}
+use Prim.Native.Nat.{◌-◌}
+use native.Mathlib.Omega.{arith}
+use mathlib.Core.Path.{◌≡◌, ap, sym, ◌∙◌, subst}
+use mathlib.Core.Bool.{Bool, true, false, ◌&&◌}
+use mathlib.Core.List.{List}
+use lib.IntN.{ℤ}
+use lib.ListN.{length, take, drop, length-take, length-drop}
 use lib.Dec.{T, leb, eqb, leb→le, eqb→eq}
 use lib.Ieee.Fits.{and_l, and_r}
 use Rattle.stores.specs.Stores.{RawStore, MergedStore}
-use Rattle.stores.specs.Code.StoreRows.{SizedRaw, SizedMerged, rising}
+use Rattle.stores.specs.Code.StoreRows.{SizedRaw, SizedMerged, RoomRaw, RoomMerged}
+use Rattle.stores.specs.Columns.{raw_cut, merged_cut}
 use Rattle.strokes.specs.declared.Stand.{Stand}
 use Rattle.machine.specs.Soundness.{is_room, rooms_pass, settings_pass, settings_sound}
 use Rattle.strokes.specs.StateRead.{settings_of, bar_counts, total, raw_sized, merged_sized, fractal_sized, stores_sized, counts_sized}
 use Rattle.strokes.specs.Lent.{Stores, FractalStore}
+use Rattle.strokes.specs.Code.StrokeSteps.{SizedFractals}
+use Rattle.strokes.proofs.StoredUnfinished.{room_of}
 use Rattle.strokes.proofs.StoredStrokes.{sized-merged}
-use Rattle.sound.specs.Code.SoundStand.{numbers_pass, raw_columns, unfinished_columns, front_columns}
-use Rattle.arith.proofs.Tests.{yes, holds}
-use Rattle.sound.proofs.SoundStrokes.{raw-rising}
+use Rattle.sound.specs.Code.SoundStand.{numbers_pass, raw_columns, unfinished_columns, front_columns, strokes_columns}
+use Rattle.arith.proofs.Tests.{holds}
+use Rattle.sound.proofs.SoundStrokes.{cut_first}
 
 eq-two : (n a b : ℕ) → T (eqb a n && eqb b n) → (a ≡ n) × (b ≡ n)
 eq-two n a b h = (eqb→eq a n (and_l (eqb a n) (eqb b n) h), eqb→eq b n (and_r (eqb a n) (eqb b n) h))
@@ -84,27 +91,53 @@ fit s m e f =
       small-strokes = room_small r.strokes (and_r (is_room r.unfinished) (is_room r.strokes) (and_r (is_room r.raw) (is_room r.unfinished && is_room r.strokes) hp));
     }
 
-pub front_rising : (n m : ℕ) (r : RawStore) (u : MergedStore) → front_columns n m r u ≡ true → T (rising (take n r.times))
-unfolding front_columns
-front_rising n m r u e =
-    let a = raw_columns (take n r.times) (take n r.prices) in
-    let b = unfinished_columns (take n r.times) (take m u.times) (take m u.prices) (take m u.counts) (take m u.elements) in
-    raw-rising (take n r.times) (take n r.prices) (yes a (and_l a b (holds e)))
+-- ---- the bars that are kept, as parts of the columns
 
--- what the scans of the raw and the unfinished bars ask
-pub front_fit : (s : Stand) (m : Stores) → Fit s m
-    → ((s.raw ≤ length m.raw.times) × (s.raw ≤ length m.raw.prices) × (length m.raw.times ≤ 65536))
-    × ((s.unfinished ≤ length m.unfinished.times) × (s.unfinished ≤ length m.unfinished.prices) × (s.unfinished ≤ length m.unfinished.counts) × (s.unfinished ≤ length m.unfinished.elements))
-front_fit s m f =
-    let a = f.few-raw in
-    let b = f.few-unfinished in
-    ((rw f.raw.times a, rw f.raw.prices a, rw f.raw.times f.small-raw), (rw f.unfinished.raw.times b, rw f.unfinished.raw.prices b, rw f.unfinished.counts b, rw f.unfinished.elements b))
+pub kept_raw : {s : Stand} {m : Stores} → Fit s m → RoomRaw m.raw s.raw
+kept_raw f = let a = f.few-raw in record { times = rw f.raw.times a; ids = rw f.raw.ids a; prices = rw f.raw.prices a }
+
+pub kept_unfinished : {s : Stand} {m : Stores} → Fit s m → RoomMerged m.unfinished s.unfinished
+kept_unfinished {s = s} {m = m} f = room_of m.unfinished s.rooms.unfinished s.unfinished f.unfinished f.few-unfinished
+
+-- the tests of the first two stores
+front-is : (n k : ℕ) (r : RawStore) (u : MergedStore) {v : RawStore} {w : MergedStore} → v ≡ raw_cut 0 n r → w ≡ merged_cut 0 k u
+    → (raw_columns v.times v.prices && unfinished_columns v.times w.times w.prices w.counts w.elements) ≡ front_columns n k r u
+unfolding front_columns
+front-is n k r u h g =
+    (λ i. raw_columns (h i).times (h i).prices && unfinished_columns (h i).times (g i).times (g i).prices (g i).counts (g i).elements)
+    ∙ (λ i. raw_columns (cut_first r.times n i) (cut_first r.prices n i) && unfinished_columns (cut_first r.times n i) (cut_first u.times k i) (cut_first u.prices k i) (cut_first u.counts k i) (cut_first u.elements k i))
+
+pub front_no_raw : (n k : ℕ) (r : RawStore) (u : MergedStore) {v : RawStore} {w : MergedStore} → v ≡ raw_cut 0 n r → w ≡ merged_cut 0 k u → raw_columns v.times v.prices ≡ false → front_columns n k r u ≡ false
+front_no_raw n k r u {v = v} {w = w} h g e = sym (front-is n k r u h g) ∙ ap (λ (t : Bool). t && unfinished_columns v.times w.times w.prices w.counts w.elements) e
+
+pub front_with : (n k : ℕ) (r : RawStore) (u : MergedStore) {v : RawStore} {w : MergedStore} → v ≡ raw_cut 0 n r → w ≡ merged_cut 0 k u → raw_columns v.times v.prices ≡ true
+    → (t : Bool) → unfinished_columns v.times w.times w.prices w.counts w.elements ≡ t → front_columns n k r u ≡ t
+front_with n k r u {v = v} {w = w} h g e t f = sym (front-is n k r u h g) ∙ ap (λ (x : Bool). x && unfinished_columns v.times w.times w.prices w.counts w.elements) e ∙ f
+
+-- no more raw times than the store has
+pub few_times : {s : Stand} {m : Stores} {v : RawStore} → Fit s m → v ≡ raw_cut 0 s.raw m.raw → length v.times ≤ 65536
+few_times {s = s} {m = m} {v = v} f e =
+    let p : length v.times ≡ length (take (s.raw - 0) (drop 0 m.raw.times)) = ap (λ (r : RawStore). length r.times) e in
+    let q = length-take (s.raw - 0) (drop 0 m.raw.times) in
+    let a = f.raw.times in
+    let b = f.small-raw in
+    omega (arith, length-drop 0 m.raw.times)
 
 -- what the walk over the strokes asks
-pub strokes_fit_lem : (s : Stand) (m : Stores) → Fit s m
-    → ((s.strokes ≤ 64) × (s.raw ≤ length m.raw.times) × (length m.raw.times ≤ 65536) × (length m.strokes.times ≤ 65536) × (total (take s.strokes s.bars) ≤ length m.strokes.times))
-    × ((length m.strokes.prices ≡ length m.strokes.times) × (length m.strokes.counts ≡ length m.strokes.times) × (length m.strokes.elements ≡ length m.strokes.times) × (length m.fractals.stamps ≡ length m.strokes.times) × (length m.fractals.prices ≡ length m.strokes.times))
+pub strokes_few : {s : Stand} {m : Stores} → Fit s m
+    → (s.strokes ≤ 64) × (length m.strokes.times ≤ 65536) × (total (take s.strokes s.bars) ≤ length m.strokes.times)
 unfolding bar_counts
-strokes_fit_lem s m f =
+strokes_few f = let t = f.strokes.raw.times in (f.few-strokes, rw t f.small-strokes, rw t f.few-bars)
+
+pub strokes_sized : {s : Stand} {m : Stores} → Fit s m → SizedMerged m.strokes (length m.strokes.times) × SizedFractals m.fractals (length m.strokes.times)
+strokes_sized {m = m} f =
     let t = f.strokes.raw.times in
-    ((f.few-strokes, rw f.raw.times f.few-raw, rw f.raw.times f.small-raw, rw t f.small-strokes, rw t f.few-bars), (f.strokes.raw.prices ∙ sym t, f.strokes.counts ∙ sym t, f.strokes.elements ∙ sym t, f.fractals.0 ∙ sym t, f.fractals.1 ∙ sym t))
+    (subst (SizedMerged m.strokes) (sym t) f.strokes, record { stamps = f.fractals.0 ∙ sym t; prices = f.fractals.1 ∙ sym t })
+
+-- the tests of the strokes
+pub by_part : (s : Stand) (m : Stores) {v : RawStore} → v ≡ raw_cut 0 s.raw m.raw
+    → (leb s.strokes s.most && strokes_columns v.times (take s.strokes s.bars) (take s.strokes s.fractals) m.strokes.times m.strokes.prices m.strokes.counts m.strokes.elements m.fractals.stamps m.fractals.prices)
+    ≡ (leb s.strokes s.most && strokes_columns (take s.raw m.raw.times) (take s.strokes s.bars) (take s.strokes s.fractals) m.strokes.times m.strokes.prices m.strokes.counts m.strokes.elements m.fractals.stamps m.fractals.prices)
+by_part s m e =
+    ap (λ (l : List ℤ). leb s.strokes s.most && strokes_columns l (take s.strokes s.bars) (take s.strokes s.fractals) m.strokes.times m.strokes.prices m.strokes.counts m.strokes.elements m.fractals.stamps m.fractals.prices)
+    (ap (λ (r : RawStore). r.times) e ∙ cut_first m.raw.times s.raw)

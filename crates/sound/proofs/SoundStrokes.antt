@@ -10,11 +10,17 @@ use lib.IntN.{ℤ}
 use lib.Dec.{T, ltb}
 use lib.Ieee.Fits.{and_l}
 use Rattle.bars.specs.Lists.{every}
-use Rattle.stores.specs.Code.StoreRows.{rising}
+use Rattle.stores.specs.Stores.{MergedStore}
+use Rattle.stores.specs.Code.StoreRows.{SizedMerged, RoomMerged, rising}
+use Rattle.stores.specs.Columns.{merged_cut}
 use Rattle.machine.specs.Soundness.{rises}
 use lib.Ieee.{Float}
 use borrow.Author.Tests.{lt-ltb, le-ltb, le-leb}
+use Rattle.strokes.specs.Lent.{FractalStore}
+use Rattle.strokes.specs.Columns.{fractals_cut}
+use Rattle.strokes.specs.Code.StrokeSteps.{SizedFractals, RoomFractals}
 use Rattle.strokes.specs.StateRead.{total}
+use Rattle.strokes.proofs.StoredUnfinished.{room_of}
 use Rattle.strokes.proofs.StoredStates.{rises-rising}
 use Rattle.sound.specs.Code.SoundStand.{merged_row, small_count, fractal_columns, named_rows, newest_row, skipped, unfinished_columns, in_time, times_pass, raw_row, raw_columns, stroke_columns, strokes_columns}
 use Rattle.sound.proofs.SoundNames.{next-total}
@@ -81,14 +87,48 @@ module _ (rt ts : List ℤ) (ps : List (List Float)) (cs : List ℕ) (es : List 
   pub unfinished_old : (n : Bool) → n ≡ newest_row rt cs es → a ≡ true → n ≡ false → false ≡ unfinished_columns rt ts ps cs es
   unfinished_old n g e h = sym (by_newest e n g false h)
 
-  pub unfinished_named : (n r : Bool) (k : ℕ) → n ≡ newest_row rt cs es → a ≡ true → n ≡ true → k ≡ skipped (length cs)
-      → r ≡ named_rows rt (take (length cs - k) (drop k cs)) (take (length es - k) (drop k es)) → r ≡ unfinished_columns rt ts ps cs es
+  pub unfinished_named : (n r : Bool) (k j : ℕ) → n ≡ newest_row rt cs es → a ≡ true → n ≡ true → j ≡ length cs → j ≡ length es → k ≡ skipped j
+      → r ≡ named_rows rt (take (j - k) (drop k cs)) (take (j - k) (drop k es)) → r ≡ unfinished_columns rt ts ps cs es
   unfolding rest_named
-  unfinished_named n r k g e h q w =
-      w ∙ (λ i. named_rows rt (rest_all cs k i) (rest_all es k i)) ∙ ap (λ (j : ℕ). named_rows rt (drop j cs) (drop j es)) q ∙ sym (by_newest e n g true h)
+  unfinished_named n r k j g e h x y q w =
+      let z : take (j - k) (drop k cs) ≡ drop k cs = ap (λ (i : ℕ). take (i - k) (drop k cs)) x ∙ rest_all cs k in
+      let v : take (j - k) (drop k es) ≡ drop k es = ap (λ (i : ℕ). take (i - k) (drop k es)) y ∙ rest_all es k in
+      w ∙ (λ i. named_rows rt (z i) (v i)) ∙ ap (λ (i : ℕ). named_rows rt (drop i cs) (drop i es)) (q ∙ ap skipped x) ∙ sym (by_newest e n g true h)
 
-pub rest_lengths : {A B : Type 0} (l : List A) (m : List B) (j : ℕ) → length l ≡ length m → length (take (length l - j) (drop j l)) ≡ length (take (length m - j) (drop j m))
-rest_lengths l m j h = rw (rest_all l j, rest_all m j, length-drop, length-drop, h)
+-- ---- parts of columns
+
+pub all_fit : {s : MergedStore} {n : ℕ} → SizedMerged s n → RoomMerged s n
+all_fit {s = s} {n = n} h = room_of s n n h (omega arith)
+
+pub fractals_room : {s : FractalStore} {n k : ℕ} → SizedFractals s n → k ≤ n → RoomFractals s k
+fractals_room h a = record { stamps = rw h.stamps a; prices = rw h.prices a }
+
+-- a part of merged bars
+module _ {s w : MergedStore} {n : ℕ} (from to : ℕ) (h : SizedMerged s n) (e : w ≡ merged_cut from to s) where
+  pub part_counts : length w.counts ≡ length w.elements
+  part_counts = subst (λ (m : MergedStore). length m.counts ≡ length m.elements) (sym e) (part_lengths s.counts s.elements (to - from) from n h.counts h.elements)
+
+  pub part_sized : SizedMerged w (length w.times)
+  part_sized =
+      let t = h.raw.times in
+      subst (λ (m : MergedStore). SizedMerged m (length m.times)) (sym e)
+      (record {
+        raw = record { times = refl; ids = part_lengths s.ids s.times (to - from) from n h.raw.ids t; prices = part_lengths s.prices s.times (to - from) from n h.raw.prices t };
+        counts = part_lengths s.counts s.times (to - from) from n h.counts t;
+        elements = part_lengths s.elements s.times (to - from) from n h.elements t;
+      })
+
+-- a stroke's own part of the columns
+pub stroke_cut : (rt : List ℤ) (s : MergedStore) (f : FractalStore) (a z y : ℕ) {w : MergedStore} {g : FractalStore} → w ≡ merged_cut a z s → g ≡ fractals_cut a y f
+    → stroke_columns rt w.times w.prices w.counts w.elements g.stamps g.prices
+    ≡ stroke_columns rt (take (z - a) (drop a s.times)) (take (z - a) (drop a s.prices)) (take (z - a) (drop a s.counts)) (take (z - a) (drop a s.elements)) (take (y - a) (drop a f.stamps)) (take (y - a) (drop a f.prices))
+stroke_cut rt s f a z y h k = λ i. stroke_columns rt (h i).times (h i).prices (h i).counts (h i).elements (k i).stamps (k i).prices
+
+-- all that stands before a place
+pub cut_first : {A : Type 0} (l : List A) (n : ℕ) → take (n - 0) (drop 0 l) ≡ take n l
+cut_first l n = let e : n - 0 ≡ n = omega arith in ap (λ (k : ℕ). take k l) e
+
+-- ---- the walk
 
 -- the bars of the stroke at k fit
 pub room_at : (bars : List ℕ) (n k a top : ℕ) → length bars ≡ 65 → n ≤ 64 → k < n → a + total (drop k (take n bars)) ≤ top → a + get_or bars k 0 ≤ top
@@ -105,10 +145,6 @@ strokes-end rt bars fractals n k a ts ps cs es fs fp v h e =
     let l : length (take n bars) ≤ k = omega (arith, length-take n bars) in
     let q : drop k (take n bars) ≡ [] = drop_of_length-le (take n bars) l in
     sym (ap (λ (ns : List ℕ). strokes_columns rt ns (drop k (take n fractals)) (drop a ts) (drop a ps) (drop a cs) (drop a es) (drop a fs) (drop a fp)) q) ∙ e
-
--- so do its fractals, which are fewer
-pub fractals_fit : (a b f top len : ℕ) → a + b ≤ top → f < b → len ≡ top → a + f ≤ len
-fractals_fit a b f top len h g e = omega arith
 
 module _ (rt : List ℤ) (bars fractals : List ℕ) (n k a : ℕ) (ts : List ℤ) (ps : List (List Float)) (cs : List ℕ) (es fs : List (List ℤ)) (fp : List (List Float))
     (lb : length bars ≡ 65) (lf : length fractals ≡ 65) (hn : n ≤ 64) (h : k < n) where
@@ -158,9 +194,6 @@ cut-count l n h = sym (length-take-le n l h)
 
 pub cut_lengths : {A B : Type 0} (l : List A) (m : List B) (n : ℕ) → n ≤ length l → n ≤ length m → length (take n l) ≡ length (take n m)
 cut_lengths l m n h g = length-take-le n l h ∙ cut-count m n g
-
-pub cut_small : {A : Type 0} (l : List A) (n top : ℕ) → n ≤ length l → length l ≤ top → length (take n l) ≤ top
-cut_small l n top h g = omega (arith, length-take-le n l h)
 
 -- raw times that pass rise
 pub raw-rising : (ts : List ℤ) (ps : List (List Float)) → raw_columns ts ps ≡ true → T (rising ts)

@@ -4,7 +4,6 @@ use Rattle.strokes.specs.declared.Rooms.{Rooms}
 use Rattle.strokes.specs.declared.Stand.{Stand}
 use Rattle.strokes.specs.Lent.{Stores}
 use Rattle.strokes.specs.StateRead.{raw_sized, merged_sized, fractal_sized}
-use Rattle.sound.specs.declared.fresh_stand.FreshAnswer.{FreshAnswer}
 use Rattle.machine.specs.FeedQuestions.{or_else}
 use Rattle.machine.specs.Soundness.{is_room, is_places}
 
@@ -80,10 +79,15 @@ unfoldable pub no_stand : Stand
 unfolding empty_stand
 no_stand = empty_stand 0 0 0 0 (record { raw = 0; unfinished = 0; strokes = 0 })
 
--- by the first question that failed: the lengths of the lent stores are recorded
+-- the number of the question that was answered "no", or 0, and the stand
+pub record FreshAnswer : Type 0 where
+  pub refused : ℕ
+  pub stand : Stand
+
+-- by the first question that failed
 unfoldable pub fresh_by : ℕ → ℕ → ℕ → ℕ → ℕ → Stores → FreshAnswer
-unfolding empty_stand no_stand or_default rooms_of
-fresh_by zero minimum most power ratio m = record { refused = 0; stand = empty_stand (or_default minimum 6) (or_default most 50) power ratio (rooms_of m) }
+unfolding first_stand no_stand
+fresh_by zero minimum most power ratio m = record { refused = 0; stand = first_stand minimum most power ratio m }
 fresh_by (suc n) minimum most power ratio m = record { refused = suc n; stand = no_stand }
 
 unfoldable pub fresh_of : ℕ → ℕ → ℕ → ℕ → Stores → FreshAnswer

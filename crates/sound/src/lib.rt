@@ -3,8 +3,9 @@
 
 mod fresh_stand;
 mod newest;
+mod raw_times;
 mod soundness;
 
-pub use fresh_stand::{FreshAnswer, fresh, new_stand};
+pub use fresh_stand::{Settings, new_stand};
 pub use newest::newest_is_last;
 pub use soundness::is_sound;

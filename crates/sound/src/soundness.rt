@@ -1,21 +1,23 @@
 // Question 4 of document 01: is the stand sound? A scan of rows puts its tests together as flags, `&` and not `&&`, without a branch, and
 // looks only at the columns that its clause speaks of. The scans of times stop at the first that fails: without a branch, a compare of
 // two i64s takes several instructions.
-ghost use Rattle.std.specs.Prelude.{◌≡◌, true, false, ◌&&◌, cond, [], ◌∷◌, map, ◌+◌, ◌-◌, ◌≤◌, ◌<◌, Bool, pos, length, take, drop, get_or, T, leb, List, ℤ};
+ghost use Rattle.std.specs.Prelude.{◌≡◌, true, false, ◌&&◌, cond, [], ◌∷◌, map, ◌+◌, ◌-◌, ◌≤◌, ◌<◌, Bool, length, take, T, leb};
 ghost use Rattle.std.specs.Option.{is_some};
 ghost use Rattle.std.specs.Float.Ieee.{lt};
 ghost use Rattle.bars.specs.Lists.{every, last};
-ghost use Rattle.stores.specs.Code.StoreRows.{rising, place_of};
-ghost use Rattle.machine.specs.Soundness.{rises, same_time, is_setting, ends_on};
+ghost use Rattle.stores.specs.Code.StoreRows.{SizedMerged};
+ghost use Rattle.machine.specs.Soundness.{rises, is_setting, ends_on};
+ghost use Rattle.strokes.specs.Code.StrokeSteps.{SizedFractals};
 ghost use Rattle.strokes.specs.StateRead.{raw_sized, merged_sized, fractal_sized, total};
-ghost use Rattle.sound.specs.Code.SoundStand.{in_time, times_pass, size_of, above_zero, of_any_sign, prices_by, raw_row_by, merged_row_by, raw_row, merged_row, small_count, top_row, alternating, is_real, ends_held, middle_times, stamps_pass, bars_by, bars_pass, fractal_columns, at_place, is_time, named_rows, newest_row, numbers_pass, raw_columns, skipped, unfinished_columns, stroke_columns, strokes_columns, front_columns};
+ghost use Rattle.sound.specs.Code.SoundStand.{in_time, times_pass, size_of, above_zero, of_any_sign, prices_by, raw_row_by, merged_row_by, raw_row, merged_row, small_count, top_row, alternating, is_real, ends_held, middle_times, stamps_pass, bars_by, bars_pass, fractal_columns, newest_row, numbers_pass, raw_columns, skipped, unfinished_columns, stroke_columns, strokes_columns};
 ghost use Rattle.sound.specs.FreshStand.{columns_agree};
 ghost use Rattle.sound.specs.StandSound.{stores_sound};
 ghost use Rattle.stores.specs.Columns.{raw_in, merged_in};
 ghost use Rattle.strokes.specs.Columns.{fractals_in, stores_in};
 
 use super::fresh_stand::{is_places, rooms_fit};
-use bars::{from_zero, is_price, is_volume};
+use super::raw_times::RawTimes;
+use bars::{FIRST_TIME, LAST_TIME, LEAST_PRICE, MOST_PRICE, from_zero, is_price, is_volume};
 use stores::{MergedColumns, RawColumns};
 use strokes::{FractalColumns, Rooms, Stand, StoreColumns};
 
@@ -29,13 +31,15 @@ pub fn times_rise(ts: &[i64]) -> bool
 }
 
 // Question 5 of a time.
+// Kept: beside time_in_range of bars, which is asked of a bar; and by two tests and no branch, as a scan asks it: `contains` tests one after the other.
 fn is_in_time(t: i64) -> bool
     ensures { result ≡ in_time t }
 {
-    (-1099511627776 <= t) & (t <= 1099511627776)
+    (FIRST_TIME <= t) & (t <= LAST_TIME)
 }
 
 // Times that rise pass question 5 if the first and the last do.
+// Kept: by length and place. `first()` and `last()` would be two Options, and one test for an empty list does for both.
 pub fn times_pass(ts: &[i64]) -> bool
     ensures { result ≡ times_pass ts.now }
 {
@@ -47,13 +51,13 @@ pub fn times_pass(ts: &[i64]) -> bool
 }
 
 // ---- rows of prices
+// Kept: `smaller` and `larger`, since the library's `min` and `max` never answer NaN where the other is a number, and `above_zero` needs the NaN.
+// Kept: a bar's numbers one by one, by their places in a row, since a fractal's row of eighteen has three bars behind one another, none a row of its own.
 
 // The smaller of the two, and y where one of them is NaN.
 fn smaller(x: f64, y: f64) -> f64
     ensures { result ≡ cond (lt x y) x y }
 {
-    // Kept: the library's `min` and `max` never answer NaN where the other is a number, which takes more than one instruction, and
-    // `above_zero` needs the NaN.
     if x < y { x } else { y }
 }
 
@@ -80,7 +84,7 @@ fn above_zero(open: f64, close: f64, high: f64, low: f64) -> bool
 {
     let smallest = smaller(low, smaller(open, close));
     let largest = larger(larger(open, close), high);
-    ((0.00000095367431640625 <= smallest) & (largest <= 1073741824.0)) & (low <= high)
+    ((LEAST_PRICE <= smallest) & (largest <= MOST_PRICE)) & (low <= high)
 }
 
 // Questions 6 and 8 of a bar, price by price.
@@ -147,6 +151,8 @@ fn three_bars<const ANY_SIGN: bool>(p: [f64; 18]) -> bool
 }
 
 // Whether every row passes, put together as one flag.
+// Kept: a loop. The closure of a fold would call `passes`, of which only a relation of row and answer is known (F.post): the fold's contract would
+// speak of that relation, and not of the test p.
 fn all_pass<T: Copy, F: Fn(T) -> bool>(rows: &[T], passes: F) -> bool
     requires { F.IsAlwaysCallable passes }
     ensures { (p : T → Bool) → ((x : T) (r : Bool) → F.post passes x r → r ≡ p x) → result ≡ every p rows.now }
@@ -158,6 +164,7 @@ fn all_pass<T: Copy, F: Fn(T) -> bool>(rows: &[T], passes: F) -> bool
     ok
 }
 
+// Kept: each test is named twice, here and below, once for either way, since a function that is handed to another can't be told its const parameter there.
 pub fn raw_rows_pass(ps: &[[f64; 6]]) -> bool
     ensures { result ≡ every raw_row ps.now }
 {
@@ -187,6 +194,8 @@ pub fn counts_pass(cs: &[usize]) -> bool
 // ---- the fractals of a stroke
 
 // A fractal's row shows a top: the highs of its bars stand at 2, 8 and 14, the lows at 3, 9 and 15.
+// Kept: by flags, beside check_bi's is_top, which branches: with a branch in a row's test question 4 took two fifths longer (docs/PROVING.md).
+// Kept: by the numbers of the places, here and below, since a pattern has eighteen places for these six or two.
 fn is_top_row(p: [f64; 18]) -> bool
     ensures { result ≡ top_row p }
 {
@@ -226,6 +235,7 @@ fn is_real(p: [f64; 18]) -> bool
 
 // A stroke starts on its first fractal and ends on the last one, or on the last but one where they
 // are odd in number.
+// Kept: by length and place, since the end's place is worked out from the length.
 fn ends_held(fp: &[[f64; 18]]) -> bool
     ensures { result ≡ ends_held fp.now }
 {
@@ -252,80 +262,19 @@ fn stamps_pass(fs: &[[i64; 6]]) -> bool
     fs.iter().all(|t| stamps_in_time(*t))
 }
 
-fn fractals_pass(fs: &[[i64; 6]], fp: &[[f64; 18]]) -> bool
-    ensures { result ≡ fractal_columns fs.now fp.now }
+fn fractals_pass(fractals: FractalColumns<'_>) -> bool
+    ensures { result ≡ fractal_columns fractals.entry.stamps.now fractals.entry.prices.now }
 {
-    (middles_rise(fs) & stamps_pass(fs)) & (bars_pass(fp) & (marks_alternate(fp) & ends_held(fp)))
+    let stamps = fractals.stamps;
+    let prices = fractals.prices;
+    (middles_rise(stamps) & stamps_pass(stamps))
+        & (bars_pass(prices) & (marks_alternate(prices) & ends_held(prices)))
 }
 
-// ---- elements name raw bars
-
-// Whether the raw time at place p, if any, is t.
-fn is_at(ts: &[i64], p: usize, t: i64) -> bool
-    ensures { result ≡ at_place ts.now p t }
-{
-    p < ts.len() && ts[p] == t
-}
-
-// The place of t among the raw times, which rise. It mostly stands at `from`, the place after that of the element before it.
-fn seek(ts: &[i64], t: i64, from: usize) -> usize
-    requires { T (rising ts.now) }
-    ensures { result ≡ place_of t ts.now }
-{
-    if is_at(ts, from, t) {
-        return from;
-    }
-    stores::find_time(ts, ts.len(), t)
-}
-
-// Whether elements are raw times, sought one by one: the place after the last of them, if they all are. The next ones mostly stand
-// there. A wrong place costs time only.
-fn each_named(ts: &[i64], elements: &[i64], from: usize) -> Option<usize>
-    requires small { length ts.now ≤ 65536 }
-    requires rise { T (rising ts.now) }
-    ensures { is_some result ≡ every (is_time ts.now) elements.now }
-{
-    let mut next = from;
-    for t in elements {
-        let p = seek(ts, *t, next);
-        if !is_at(ts, p, *t) {
-            return None;
-        }
-        next = p + 1;
-    }
-    Some(next)
-}
-
-// The first `count` elements of a row. They mostly follow one another from `from` on.
-fn row_named(ts: &[i64], row: &[i64], count: usize, from: usize) -> Option<usize>
-    requires small { length ts.now ≤ 65536 }
-    requires rise { T (rising ts.now) }
-    ensures { is_some result ≡ every (is_time ts.now) (take count row.now) }
-{
-    let elements = &row[..count.min(row.len())];
-    if from <= ts.len() && ts[from..].starts_with(elements) {
-        return Some(from + elements.len());
-    }
-    each_named(ts, elements, from)
-}
-
-// The elements of all rows, and the place that the last row was looked for at: the next stroke's rows mostly start with that row
-// again.
-fn rows_named(ts: &[i64], cs: &[usize], es: &[[i64; 101]], from: usize) -> Option<usize>
-    requires sizes { (length cs.now ≡ length es.now) × (length ts.now ≤ 65536) }
-    requires rise { T (rising ts.now) }
-    ensures { is_some result ≡ named_rows ts.now cs.now es.now }
-{
-    let mut first = from;
-    let mut next = from;
-    for i in 0..cs.len() {
-        first = next;
-        next = row_named(ts, &es[i], cs[i], next)?;
-    }
-    Some(first)
-}
+// ---- the newest raw bar
 
 // t is the last of the first `count` elements of a row.
+// Kept: a row without elements in use by a test of its own: `last() == Some(&t)` would tell it only by what None is not equal to.
 fn is_last(t: i64, row: &[i64], count: usize) -> bool
     ensures { result ≡ ends_on t (last (take count row.now)) }
 {
@@ -337,6 +286,8 @@ fn is_last(t: i64, row: &[i64], count: usize) -> bool
 }
 
 // The newest raw time, if any, is the last element of the last row.
+// Kept: column by column, since `newest_is_last` asks a caller for no more columns than these; by length and place, since one test for no rows does for
+// both columns.
 pub fn newest_named(ts: &[i64], cs: &[usize], es: &[[i64; 101]]) -> bool
     requires { length cs.now ≡ length es.now }
     ensures { result ≡ newest_row ts.now cs.now es.now }
@@ -361,6 +312,7 @@ pub fn is_setting(n: usize) -> bool
 }
 
 // These numbers together are at most `room`: what is left of it is counted down, since a sum could be too large for a usize.
+// Kept: a loop, whose invariant is what is left of `room`. A try_fold promises the run of its steps, and to tell the sum from it is as long as this loop.
 fn total_fits(bars: &[u32], room: usize) -> bool
     ensures { result ≡ leb (total bars.now) room }
 {
@@ -394,17 +346,17 @@ fn fractal_sized(n: usize, fractals: FractalColumns<'_>) -> bool
 
 // ---- the lists
 
-fn raw_columns_pass(ts: &[i64], ps: &[[f64; 6]]) -> bool
-    ensures { result ≡ raw_columns ts.now ps.now }
+fn raw_columns_pass(raw: RawColumns<'_>) -> bool
+    ensures { result ≡ raw_columns raw.entry.times.now raw.entry.prices.now }
 {
-    times_pass(ts) && raw_rows_pass(ps)
+    times_pass(raw.times) && raw_rows_pass(raw.prices)
 }
 
 // Merged bars, but for the names of their elements.
-fn merged_columns_pass(ts: &[i64], ps: &[[f64; 6]], cs: &[usize]) -> bool
-    ensures { result ≡ (times_pass ts.now && (every merged_row ps.now && every small_count cs.now)) }
+fn merged_columns_pass(bars: MergedColumns<'_>) -> bool
+    ensures { result ≡ (times_pass bars.entry.times.now && (every merged_row bars.entry.prices.now && every small_count bars.entry.counts.now)) }
 {
-    times_pass(ts) && (merged_rows_pass(ps) & counts_pass(cs))
+    times_pass(bars.times) && (merged_rows_pass(bars.prices) & counts_pass(bars.counts))
 }
 
 // Where another bar follows it, the first unfinished bar is not asked for its elements.
@@ -415,63 +367,63 @@ fn skipped(n: usize) -> usize
     if n <= 1 { 0 } else { 1 }
 }
 
-// The unfinished bars, where the raw times are rt.
-fn unfinished_pass(rt: &[i64], ts: &[i64], ps: &[[f64; 6]], cs: &[usize], es: &[[i64; 101]]) -> bool
-    requires sizes { (length cs.now ≡ length es.now) × (length rt.now ≤ 65536) }
-    requires rise { T (rising rt.now) }
-    ensures { result ≡ unfinished_columns rt.now ts.now ps.now cs.now es.now }
+// The unfinished bars.
+// Kept: a return for each test, here and below, one clause of question 4 a line; behind the last one the parts are made that are asked next, which `||` could
+// not hold.
+fn unfinished_pass(raw: RawTimes<'_>, unfinished: MergedColumns<'_>) -> bool
+    requires { SizedMerged (merged_in unfinished) (length unfinished.times.now) }
+    ensures { result ≡ unfinished_columns raw.entry.times.now unfinished.entry.times.now unfinished.entry.prices.now unfinished.entry.counts.now unfinished.entry.elements.now }
 {
-    if !merged_columns_pass(ts, ps, cs) {
+    if !merged_columns_pass(unfinished) {
         return false;
     }
-    if !newest_named(rt, cs, es) {
+    if !newest_named(raw.times, unfinished.counts, unfinished.elements) {
         return false;
     }
-    let from = skipped(cs.len());
-    rows_named(rt, &cs[from..], &es[from..], 0).is_some()
+    let n = unfinished.times.len();
+    let asked = unfinished.part(skipped(n), n);
+    raw.rows_named(asked, 0).is_some()
 }
 
 // One stroke: its bars and its fractals. Its elements are looked for at `from`, and the next stroke's at the place that is answered.
 fn stroke_pass(
-    rt: &[i64],
-    ts: &[i64],
-    ps: &[[f64; 6]],
-    cs: &[usize],
-    es: &[[i64; 101]],
-    fs: &[[i64; 6]],
-    fp: &[[f64; 18]],
+    raw: RawTimes<'_>,
+    bars: MergedColumns<'_>,
+    fractals: FractalColumns<'_>,
     from: usize,
 ) -> Option<usize>
-    requires sizes { (length cs.now ≡ length ts.now) × (length es.now ≡ length ts.now) × (length rt.now ≤ 65536) }
-    requires rise { T (rising rt.now) }
-    ensures { is_some result ≡ stroke_columns rt.now ts.now ps.now cs.now es.now fs.now fp.now }
+    requires { SizedMerged (merged_in bars) (length bars.times.now) }
+    ensures { is_some result ≡ stroke_columns raw.entry.times.now bars.entry.times.now bars.entry.prices.now bars.entry.counts.now bars.entry.elements.now fractals.entry.stamps.now fractals.entry.prices.now }
 {
-    let n = ts.len();
+    let n = bars.times.len();
     if n < 4 {
         return None;
     }
-    if !merged_columns_pass(ts, ps, cs) {
+    if !merged_columns_pass(bars) {
         return None;
     }
-    if !fractals_pass(fs, fp) {
+    if !fractals_pass(fractals) {
         return None;
     }
-    rows_named(rt, &cs[1..n - 1], &es[1..n - 1], from)
+    let inner = bars.part(1, n - 1);
+    raw.rows_named(inner, from)
 }
 
 // The first n strokes, of these numbers of bars and of fractals.
+// Kept: by index, since the loop's invariant speaks of what both arrays have from the same place on: with `zip` it would speak of one list of pairs.
+// Kept: the lengths of both arrays in the contract, here and in strokes_sound, where the proof of is_sound has them from: as an invariant of Stand they would
+// be proved wherever a stand is made or changed.
 fn strokes_pass(
-    rt: &[i64],
+    raw: RawTimes<'_>,
     n: usize,
     bars: [u32; 65],
     fractals: [u32; 65],
     strokes: MergedColumns<'_>,
     marks: FractalColumns<'_>,
 ) -> bool
-    requires fact_1 { (n ≤ 64) × (length rt.now ≤ 65536) × (length strokes.times.now ≤ 65536) × (total (take n bars) ≤ length strokes.times.now) }
-    requires fact_2 { (length strokes.prices.now ≡ length strokes.times.now) × (length strokes.counts.now ≡ length strokes.times.now) × (length strokes.elements.now ≡ length strokes.times.now) × (length marks.stamps.now ≡ length strokes.times.now) × (length marks.prices.now ≡ length strokes.times.now) }
-    requires fact_3 { T (rising rt.now) }
-    ensures { (result ≡ strokes_columns rt.now (take n bars) (take n fractals) strokes.entry.times.now strokes.entry.prices.now strokes.entry.counts.now strokes.entry.elements.now marks.entry.stamps.now marks.entry.prices.now) × (length bars ≡ 65) × (length fractals ≡ 65) }
+    requires few { (n ≤ 64) × (length strokes.times.now ≤ 65536) × (total (take n bars) ≤ length strokes.times.now) }
+    requires sizes { (SizedMerged (merged_in strokes) (length strokes.times.now)) × (SizedFractals (fractals_in marks) (length strokes.times.now)) }
+    ensures { (result ≡ strokes_columns raw.entry.times.now (take n bars) (take n fractals) strokes.entry.times.now strokes.entry.prices.now strokes.entry.counts.now strokes.entry.elements.now marks.entry.stamps.now marks.entry.prices.now) × (length bars ≡ 65) × (length fractals ≡ 65) }
 {
     let mut a: usize = 0;
     let mut from: usize = 0;
@@ -481,22 +433,14 @@ fn strokes_pass(
         if b <= f {
             return false;
         }
-        let e = a + b;
-        let g = a + f;
-        let Some(next) = stroke_pass(
-            rt,
-            &strokes.times[a..e],
-            &strokes.prices[a..e],
-            &strokes.counts[a..e],
-            &strokes.elements[a..e],
-            &marks.stamps[a..g],
-            &marks.prices[a..g],
-            from,
-        ) else {
+        let end = a + b;
+        let own = strokes.part(a, end);
+        let marked = marks.part(a, a + f);
+        let Some(next) = stroke_pass(raw, own, marked, from) else {
             return false;
         };
         from = next;
-        a = e;
+        a = end;
     }
     true
 }
@@ -518,49 +462,22 @@ fn numbers_pass(stand: Stand) -> bool
     counts & settings
 }
 
-// The n raw bars and the m unfinished bars.
-fn front_pass(n: usize, m: usize, raw: RawColumns<'_>, unfinished: MergedColumns<'_>) -> bool
-    requires fact_1 { (n ≤ length raw.times.now) × (n ≤ length raw.prices.now) × (length raw.times.now ≤ 65536) }
-    requires fact_2 { (m ≤ length unfinished.times.now) × (m ≤ length unfinished.prices.now) × (m ≤ length unfinished.counts.now) × (m ≤ length unfinished.elements.now) }
-    ensures { result ≡ front_columns n m (raw_in raw.entry) (merged_in unfinished.entry) }
-{
-    let rt = &raw.times[..n];
-    if !raw_columns_pass(rt, &raw.prices[..n]) {
-        return false;
-    }
-    unfinished_pass(
-        rt,
-        &unfinished.times[..m],
-        &unfinished.prices[..m],
-        &unfinished.counts[..m],
-        &unfinished.elements[..m],
-    )
-}
-
 // No more than the most strokes.
 fn strokes_sound(
     stand: Stand,
-    raw: RawColumns<'_>,
+    raw: RawTimes<'_>,
     strokes: MergedColumns<'_>,
     marks: FractalColumns<'_>,
 ) -> bool
-    requires fact_1 { (stand.strokes ≤ 64) × (stand.raw ≤ length raw.times.now) × (length raw.times.now ≤ 65536) × (length strokes.times.now ≤ 65536) × (total (take stand.strokes stand.bars) ≤ length strokes.times.now) }
-    requires fact_2 { (length strokes.prices.now ≡ length strokes.times.now) × (length strokes.counts.now ≡ length strokes.times.now) × (length strokes.elements.now ≡ length strokes.times.now) × (length marks.stamps.now ≡ length strokes.times.now) × (length marks.prices.now ≡ length strokes.times.now) }
-    requires fact_3 { T (rising (take stand.raw raw.times.now)) }
-    ensures { (result ≡ (leb stand.strokes stand.most && strokes_columns (take stand.raw raw.entry.times.now) (take stand.strokes stand.bars) (take stand.strokes stand.fractals) strokes.entry.times.now strokes.entry.prices.now strokes.entry.counts.now strokes.entry.elements.now marks.entry.stamps.now marks.entry.prices.now)) × (length stand.bars ≡ 65) × (length stand.fractals ≡ 65) }
+    requires few { (stand.strokes ≤ 64) × (length strokes.times.now ≤ 65536) × (total (take stand.strokes stand.bars) ≤ length strokes.times.now) }
+    requires sizes { (SizedMerged (merged_in strokes) (length strokes.times.now)) × (SizedFractals (fractals_in marks) (length strokes.times.now)) }
+    ensures { (result ≡ (leb stand.strokes stand.most && strokes_columns raw.entry.times.now (take stand.strokes stand.bars) (take stand.strokes stand.fractals) strokes.entry.times.now strokes.entry.prices.now strokes.entry.counts.now strokes.entry.elements.now marks.entry.stamps.now marks.entry.prices.now)) × (length stand.bars ≡ 65) × (length stand.fractals ≡ 65) }
 {
     let n = stand.strokes;
     if stand.most < n {
         return false;
     }
-    strokes_pass(
-        &raw.times[..stand.raw],
-        n,
-        stand.bars,
-        stand.fractals,
-        strokes,
-        marks,
-    )
+    strokes_pass(raw, n, stand.bars, stand.fractals, strokes, marks)
 }
 
 // ---- the stand
@@ -584,8 +501,14 @@ pub fn is_sound(stand: Stand, stores: StoreColumns<'_>) -> bool
     if !numbers_pass(stand) {
         return false;
     }
-    if !front_pass(stand.raw, stand.unfinished, stores.raw, stores.unfinished) {
+    let raw = stores.raw.part(0, stand.raw);
+    let unfinished = stores.unfinished.part(0, stand.unfinished);
+    if !raw_columns_pass(raw) {
         return false;
     }
-    strokes_sound(stand, stores.raw, stores.strokes, stores.fractals)
+    let times = RawTimes { times: raw.times };
+    if !unfinished_pass(times, unfinished) {
+        return false;
+    }
+    strokes_sound(stand, times, stores.strokes, stores.fractals)
 }

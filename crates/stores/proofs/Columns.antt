@@ -1,12 +1,13 @@
 -- The bars of a store after every column was written alike: one law for each of set, take, drop and ++ on two lists joined place by place, and what follows
 -- for the stores. Assumes nothing.
-use Prim.Native.Nat.{ℕ, zero, suc, ◌+◌, ◌<◌, ◌≤◌}
-use mathlib.Core.List.{List, [], ◌∷◌, ◌++◌, map}
+use Prim.Native.Nat.{ℕ, zero, suc, ◌+◌, ◌-◌, ◌<◌, ◌≤◌}
+use mathlib.Core.List.{List, [], ◌∷◌, ◌++◌, map, append-nil}
 use mathlib.Core.Path.{◌≡◌, refl, ap, sym, ◌∙◌}
+use native.Mathlib.Nat.{le_refl}
 use native.Mathlib.Numerals.{add-one}
 use native.Mathlib.Omega.{arith}
-use lib.ListN.{length, take, drop, get_or, set, length-take, length-drop, length-set, length-append}
-use lib.Seq.{take-suc-set}
+use lib.ListN.{length, take, drop, get_or, set, length-take, length-drop, length-set, length-append, drop_of_length-le}
+use lib.Seq.{take-suc-set, take_all, length-take-le}
 use lib.IntN.{ℤ, pos}
 use lib.Ieee.{Float}
 use Rattle.bars.specs.declared.Bar.{Bar}
@@ -85,6 +86,42 @@ module _ {A B C : Type 0} (f : A → B → C) where
       (rw (length-append, length-append, p, q))
       ∙ ap (λ (r : List C). r ++ zip_with f (drop (at + n) d) (drop (at + n) e)) (zip-append (take at d) (take n (drop from s)) (take at e) (take n (drop from t)) p)
       ∙ (λ i. zip-take at d e i ++ (zip-take n (drop from s) (drop from t) ∙ ap (take n) (zip-drop from s t)) i ++ zip-drop (at + n) d e i)
+
+-- ---- a part that was lent, `&mut d[lo..]`, and the list that has it back
+
+abbrev pub part_of : {A : Type 0} → ℕ → List A → List A
+part_of lo d = take (length d - lo) (drop lo d)
+
+abbrev pub back_in : {A : Type 0} → ℕ → List A → List A → List A
+back_in lo d r = take lo d ++ (r ++ drop (length d - lo) (drop lo d))
+
+module _ {A : Type 0} (lo : ℕ) (d : List A) where
+  part_is : part_of lo d ≡ drop lo d
+  part_is = take_all (length d - lo) (drop lo d) (rw length-drop (le_refl (length d - lo)))
+
+  back_is : (r : List A) → back_in lo d r ≡ take lo d ++ r
+  back_is r =
+      let none : drop (length d - lo) (drop lo d) ≡ [] = drop_of_length-le (drop lo d) {i = length d - lo} (rw length-drop (le_refl (length d - lo))) in
+      rw (none, append-nil r)
+
+  pub back-length : (r : List A) → lo ≤ length d → length r ≡ length (part_of lo d) → length (back_in lo d r) ≡ length d
+  back-length r h e =
+      let t = length-take-le lo d h in
+      let p = ap length part_is ∙ length-drop lo d in
+      let b = ap length (back_is r) ∙ length-append (take lo d) r in
+      omega arith
+
+-- the parts of two columns
+module _ {A B C : Type 0} (f : A → B → C) (lo : ℕ) (l : List A) (m : List B) where
+  pub zip_part : zip_with f (part_of lo l) (part_of lo m) ≡ part_of lo (zip_with f l m)
+  zip_part = (λ i. zip_with f (part_is lo l i) (part_is lo m i)) ∙ zip-drop f lo l m ∙ sym (part_is lo (zip_with f l m))
+
+  pub zip-back : (r : List A) (s : List B) → lo ≤ length l → lo ≤ length m → zip_with f (back_in lo l r) (back_in lo m s) ≡ back_in lo (zip_with f l m) (zip_with f r s)
+  zip-back r s h k =
+      (λ i. zip_with f (back_is lo l r i) (back_is lo m s i))
+      ∙ zip-append f (take lo l) r (take lo m) s (length-take-le lo l h ∙ sym (length-take-le lo m k))
+      ∙ ap (λ (x : List C). x ++ zip_with f r s) (zip-take f lo l m)
+      ∙ sym (back_is lo (zip_with f l m) (zip_with f r s))
 
 -- what g reads of the rows of three columns, and r of their first column, or of their third
 module _ {A B C D X : Type 0} (f : A → B → C → D) (g : D → X) where

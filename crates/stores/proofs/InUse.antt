@@ -1,11 +1,14 @@
 -- Rows of elements of which only what is in use is copied: the laws of the loops, and the bars that the store holds afterwards. Assumes nothing.
 use Prim.Native.Nat.{ℕ, zero, suc, ◌+◌, ◌-◌, ◌<◌, ◌≤◌, min}
+use mathlib.Core.Bool.{Bool, true, false}
 use mathlib.Core.List.{List, [], ◌∷◌, ◌++◌}
 use mathlib.Core.Logic.{◌⊎◌, inl, inr}
 use mathlib.Core.Path.{◌≡◌, refl, ap, sym, ◌∙◌, subst}
 use native.Mathlib.Nat.{zero-add}
 use Rattle.arith.proofs.FloatOrder.{lt-or_ge}
 use native.Mathlib.Omega.{arith}
+use lib.Dec.{leb}
+use borrow.Author.Tests.{le-leb, lt-leb}
 use lib.ListN.{length, take, drop, get_or, set, take-append-drop, length-set}
 use lib.Seq.{take_all, get_or-set_same, get_or-set_other, set-get_or}
 use lib.IntN.{ℤ, pos}
@@ -13,9 +16,9 @@ use Rattle.bars.specs.declared.Bar.{Bar}
 use Rattle.bars.specs.Bars.{Merged}
 use Rattle.bars.specs.Lists.{copied}
 use Rattle.stores.specs.Stores.{RawStore, MergedStore, raw_part, zip_with, with_first, raw_bars, merged_bars}
-use Rattle.stores.specs.Code.StoreRows.{SizedRaw, SizedMerged, in_use, RowsCopied, CopiedInUse}
-use Rattle.bars.proofs.Moves.{length-copied, take-copied, copied_none, copy_turn, copied-turn, down_turn, up_none, up_turn, up-end}
-use Rattle.stores.proofs.Columns.{zip-set, zip-at, zip_longer, zip_length, zip-copied, raw-length, raw-copied, sized-copied}
+use Rattle.stores.specs.Code.StoreRows.{SizedRaw, SizedMerged, in_use, row_in_turn, RowsCopied, CopiedInUse}
+use Rattle.bars.proofs.Moves.{length-copied, take-copied, copied_none, copy_turn, copied-turn, down_turn, up_turn, part_copied}
+use Rattle.stores.proofs.Columns.{part_of, back_in, back-length, zip_part, zip-back, zip-set, zip-at, zip_longer, zip_length, zip-copied, raw-length, raw-copied, sized-copied}
 
 -- ---- the first places of one row to another
 
@@ -169,37 +172,111 @@ module _ (cs : List ℕ) (es : List (List ℤ)) where
         }
 
     -- rows of the same store, up, the last row first
-    pub up-rows-turn : (at from n i c : ℕ)
-        → RowsCopied cs es (at + i) cs es (from + i) (n - i) cs' es'
+    pub up-rows-turn : (at from n j c : ℕ)
+        → RowsCopied cs es (at + (j + 1)) cs es (from + (j + 1)) (n - (j + 1)) cs' es'
         → length cs' ≡ length cs
         → from ≤ at
         → at + n ≤ length cs
         → at + n ≤ length es
-        → i ≤ n
-        → 0 < i
-        → c ≡ get_or cs' (from + (i - 1)) 0
-        → take c (get_or es'' (at + (i - 1)) []) ≡ take c (get_or es' (from + (i - 1)) [])
-        → es'' ≡ set es' (at + (i - 1)) (get_or es'' (at + (i - 1)) [])
-        → RowsCopied cs es (at + (i - 1)) cs es (from + (i - 1)) (n - (i - 1)) (set cs' (at + (i - 1)) c) es''
-    up-rows-turn at from n i c d l h hc he hi some ec et eq =
-        let j = i - 1 in
+        → j < n
+        → c ≡ get_or cs' (from + j) 0
+        → take c (get_or es'' (at + j) []) ≡ take c (get_or es' (from + j) [])
+        → es'' ≡ set es' (at + j) (get_or es'' (at + j) [])
+        → RowsCopied cs es (at + j) cs es (from + j) (n - j) (set cs' (at + j) c) es''
+    up-rows-turn at from n j c d l h hc he hj ec et eq =
         let row = get_or es'' (at + j) [] in
         let p = d.places in
         record {
-          counts = up_turn cs cs' at from n i 0 c d.counts h hc hi some ec;
+          counts = up_turn cs cs' at from n j 0 c d.counts h hc hj ec;
           elements =
               in_use-set cs' es' es'' (at + j) c eq
-              ∙ up_turn (in_use cs es) (in_use cs' es') at from n i [] (take c row) d.elements h (in_use-room (at + n) cs es hc he) hi some
+              ∙ up_turn (in_use cs es) (in_use cs' es') at from n j [] (take c row) d.elements h (in_use-room (at + n) cs es hc he) hj
               (in_use-at cs' es' (from + j) c row (omega arith) (omega arith) ec et);
           places = ap length eq ∙ length-set es' (at + j) row ∙ d.places;
         }
 
-  pub up-rows-none : (at from n : ℕ) → RowsCopied cs es (at + n) cs es (from + n) (n - n) cs es
-  up-rows-none at from n = record { counts = up_none cs at from n; elements = up_none (in_use cs es) at from n; places = refl }
+-- ---- the rows of a store in turn: of n rows, k are moved
 
-  pub up-rows-end : (at from n i : ℕ) (cs' : List ℕ) (es' : List (List ℤ)) → RowsCopied cs es (at + i) cs es (from + i) (n - i) cs' es' → i ≤ 0 → RowsCopied cs es at cs es from n cs' es'
-  up-rows-end at from n i cs' es' d h =
-      record { counts = up-end cs cs' at from n i d.counts h; elements = up-end (in_use cs es) (in_use cs' es') at from n i d.elements h; places = d.places }
+-- place a of the first row of those, which are the first k where they go down, and the last k where they go up
+abbrev pub first_moved : Bool → ℕ → ℕ → ℕ → ℕ
+first_moved true a n k = a
+first_moved false a n k = a + (n - k)
+
+none_left : (b : Bool) (a n k : ℕ) → k ≡ n → first_moved b a n k ≡ a
+none_left true a n k e = refl
+none_left false a n k e = omega arith
+
+-- b is whether they go down
+abbrev pub MovedBy : Bool → List ℕ → List (List ℤ) → ℕ → ℕ → ℕ → ℕ → List ℕ → List (List ℤ) → Type 0
+MovedBy b cs es at from n k cs' es' = RowsCopied cs es (first_moved b at n k) cs es (first_moved b from n k) k cs' es'
+
+abbrev pub Moved : List ℕ → List (List ℤ) → ℕ → ℕ → ℕ → ℕ → List ℕ → List (List ℤ) → Type 0
+Moved cs es at from n k cs' es' = MovedBy (leb at from) cs es at from n k cs' es'
+
+module _ (cs : List ℕ) (es : List (List ℤ)) (at from n : ℕ) where
+  pub moved_none : Moved cs es at from n 0 cs es
+  moved_none = rows_none cs es (first_moved (leb at from) at n 0) cs es (first_moved (leb at from) from n 0)
+
+  pub moved_end : (k : ℕ) (cs' : List ℕ) (es' : List (List ℤ)) → Moved cs es at from n k cs' es' → k ≡ n → RowsCopied cs es at cs es from n cs' es'
+  moved_end k cs' es' m e =
+      let down = leb at from in
+      let here = subst (λ (p : ℕ). RowsCopied cs es p cs es (first_moved down from n k) k cs' es') (none_left down at n k e) m in
+      let all = subst (λ (p : ℕ). RowsCopied cs es at cs es p k cs' es') (none_left down from n k e) here in
+      subst (λ (j : ℕ). RowsCopied cs es at cs es from j cs' es') e all
+
+  module _ (k : ℕ) (cs' : List ℕ) (es' es'' : List (List ℤ)) (i c : ℕ)
+      (fits : (from + n ≤ length cs) × (from + n ≤ length es) × (at + n ≤ length cs) × (at + n ≤ length es)) (more : k < n)
+      (long : length cs' ≡ length cs)
+      (ec : c ≡ get_or cs' (from + i) 0)
+      (et : take c (get_or es'' (at + i) []) ≡ take c (get_or es' (from + i) []))
+      (eq : es'' ≡ set es' (at + i) (get_or es'' (at + i) [])) where
+    -- the next of them is moved
+    down-one : at ≤ from → i ≡ k → MovedBy true cs es at from n k cs' es' → MovedBy true cs es at from n (k + 1) (set cs' (at + i) c) es''
+    down-one h e m =
+        let f = fits.0 in
+        let g = fits.1 in
+        let begun = subst (λ (j : ℕ). RowsCopied cs es at cs es from j cs' es') (sym e) m in
+        subst (λ (j : ℕ). RowsCopied cs es at cs es from (j + 1) (set cs' (at + i) c) es'') e
+        (down-rows-turn cs es cs' es' es'' at from i c begun long h (omega arith) (omega arith) ec et eq)
+
+    up-one : from ≤ at → i ≡ n - 1 - k → MovedBy false cs es at from n k cs' es' → MovedBy false cs es at from n (k + 1) (set cs' (at + i) c) es''
+    up-one h e m =
+        let s : n - k ≡ i + 1 = omega arith in
+        let t : k ≡ n - (i + 1) = omega arith in
+        let u : i ≡ n - (k + 1) = omega arith in
+        let v : n - i ≡ k + 1 = omega arith in
+        let begun = subst (λ (j : ℕ). RowsCopied cs es (at + j) cs es (from + j) (n - (i + 1)) cs' es') s (subst (λ (j : ℕ). RowsCopied cs es (at + (n - k)) cs es (from + (n - k)) j cs' es') t m) in
+        subst (λ (j : ℕ). RowsCopied cs es (at + j) cs es (from + j) (k + 1) (set cs' (at + i) c) es'') u
+        (subst (λ (j : ℕ). RowsCopied cs es (at + i) cs es (from + i) j (set cs' (at + i) c) es'') v
+        (up-rows-turn cs es cs' es' es'' at from n i c begun long h fits.2 fits.3 (omega arith) ec et eq))
+
+    pub moved-turn : i ≡ row_in_turn (leb at from) n k → Moved cs es at from n k cs' es' → Moved cs es at from n (k + 1) (set cs' (at + i) c) es''
+    unfolding row_in_turn
+    moved-turn = by (lt-or_ge from at)
+      where
+        by : (from < at) ⊎ (at ≤ from) → i ≡ row_in_turn (leb at from) n k → Moved cs es at from n k cs' es' → Moved cs es at from n (k + 1) (set cs' (at + i) c) es''
+        by (inl h) = rw (lt-leb at from h) (up-one (omega arith))
+        by (inr h) = rw (le-leb at from h) (down-one h)
+
+-- ---- parts that were lent
+
+module _ (cs : List ℕ) (es : List (List ℤ)) where
+  -- the columns after their parts from `at` on were lent to a copy of the first n rows of other parts
+  pub part_rows : (ds : List ℕ) (fs : List (List ℤ)) (cs' : List ℕ) (es' : List (List ℤ)) (at from n : ℕ)
+      → at + n ≤ length cs
+      → at + n ≤ length es
+      → RowsCopied (part_of at cs) (part_of at es) 0 (part_of from ds) (part_of from fs) 0 n cs' es'
+      → RowsCopied cs es at ds fs from n (back_in at cs cs') (back_in at es es')
+  unfolding in_use
+  part_rows ds fs cs' es' at from n hc he d =
+      record {
+        counts = part_copied cs ds (part_of from ds) cs' at from n hc refl d.counts;
+        elements =
+            zip-back take at cs es cs' es' (omega arith) (omega arith)
+            ∙ part_copied (in_use cs es) (in_use ds fs) (part_of from (in_use ds fs)) (in_use cs' es') at from n (in_use-room (at + n) cs es hc he) refl
+            (d.elements ∙ (λ i. copied (zip_part take at cs es i) 0 (zip_part take from ds fs i) 0 n));
+        places = back-length at es es' (omega arith) d.places;
+      }
 
 -- ---- the store
 

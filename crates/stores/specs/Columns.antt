@@ -1,6 +1,6 @@
 -- The lent columns of a store, as a function takes them in one value, and the store that they are. Of columns lent to be written: that they are the same columns afterwards,
 -- with as many places as before. Definitions only.
-use Rattle.std.specs.Prelude.{◌≡◌, length}
+use Rattle.std.specs.Prelude.{ℕ, ◌≡◌, ◌-◌, length, take, drop}
 use Rattle.stores.specs.declared.lent_columns.RawColumns.{RawColumns}
 use Rattle.stores.specs.declared.lent_columns.RawColumnsMut.{RawColumnsMut}
 use Rattle.stores.specs.declared.lent_columns.MergedColumns.{MergedColumns}
@@ -20,6 +20,15 @@ merged_in c = merged_store c.times.now c.ids.now c.prices.now c.counts.now c.ele
 
 abbrev pub merged_of : MergedColumnsMut → MergedStore
 merged_of c = merged_store c.times.now c.ids.now c.prices.now c.counts.now c.elements.now
+
+-- the rows from `from` up to `to`
+abbrev pub raw_cut : ℕ → ℕ → RawStore → RawStore
+raw_cut from to s = raw_store (take (to - from) (drop from s.times)) (take (to - from) (drop from s.ids)) (take (to - from) (drop from s.prices))
+
+abbrev pub merged_cut : ℕ → ℕ → MergedStore → MergedStore
+merged_cut from to s =
+    merged_store (take (to - from) (drop from s.times)) (take (to - from) (drop from s.ids)) (take (to - from) (drop from s.prices)) (take (to - from) (drop from s.counts))
+    (take (to - from) (drop from s.elements))
 
 -- ---- the same columns
 

@@ -35,14 +35,5 @@ raw_seen t i p = raw_lent t.entry i.entry p.entry
 abbrev pub merged_held : MutBor (List ℤ) → MutBor (List ℤ) → MutBor (List (List Float)) → MutBor (List ℕ) → MutBor (List (List ℤ)) → MergedStore
 merged_held t i p c e = merged_store t.now i.now p.now c.now e.now
 
-abbrev pub merged_before : Lent ℤ → Lent ℤ → Lent (List Float) → Lent ℕ → Lent (List ℤ) → MergedStore
-merged_before t i p c e = merged_held t.entry i.entry p.entry c.entry e.entry
-
-abbrev pub merged_after : Lent ℤ → Lent ℤ → Lent (List Float) → Lent ℕ → Lent (List ℤ) → MergedStore
-merged_after t i p c e = merged_held t.exit i.exit p.exit c.exit e.exit
-
 abbrev pub merged_lent : Bor (List ℤ) → Bor (List ℤ) → Bor (List (List Float)) → Bor (List ℕ) → Bor (List (List ℤ)) → MergedStore
 merged_lent t i p c e = merged_store t.now i.now p.now c.now e.now
-
-abbrev pub merged_seen : Seen ℤ → Seen ℤ → Seen (List Float) → Seen ℕ → Seen (List ℤ) → MergedStore
-merged_seen t i p c e = merged_lent t.entry i.entry p.entry c.entry e.entry

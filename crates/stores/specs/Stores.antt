@@ -1,9 +1,8 @@
 -- The lent stores of raw bars and of merged bars, column by column, and the bars that they hold. A place is a row: what stands at it in every column.
 -- Definitions only.
-use Rattle.std.specs.Prelude.{ℕ, List, [], ◌∷◌, take, get_or, ℤ, Float}
-use Rattle.std.specs.Float.{nan}
+use Rattle.std.specs.Prelude.{ℕ, List, [], ◌∷◌, take, ℤ, Float}
 use Rattle.bars.specs.declared.Bar.{Bar}
-use Rattle.bars.specs.Bars.{Merged}
+use Rattle.bars.specs.Bars.{Merged, bar_with}
 
 -- ---- the columns
 
@@ -41,17 +40,7 @@ zip_with f (a ∷ l) (b ∷ m) = f a b ∷ zip_with f l m
 
 -- the bar of this time and id that has this row of prices
 unfoldable pub bar_of : ℤ → ℤ → List Float → Bar
-bar_of t i p =
-    record {
-      time = t;
-      id = i;
-      «open» = get_or p 0 nan;
-      close = get_or p 1 nan;
-      high = get_or p 2 nan;
-      low = get_or p 3 nan;
-      vol = get_or p 4 nan;
-      amount = get_or p 5 nan;
-    }
+bar_of t i p = bar_with t i p
 
 -- the merged bar with the first n elements of a row
 unfoldable pub with_first : Bar → ℕ → List ℤ → Merged

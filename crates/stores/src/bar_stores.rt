@@ -1,47 +1,57 @@
 // The lent stores of raw bars and of merged bars. A store is one slice for each column, and a place is
 // a row: what stands at it in every column. What a function is not said to change stays as it was,
 // also beyond the count of the bars that are kept.
-ghost use Rattle.std.specs.Prelude.{◌≡◌, [], ◌+◌, ◌≤◌, length, take, get_or, T};
-ghost use Rattle.stores.specs.Code.StoreRows.{RoomRaw, RoomMerged, bar_at, new_bar_at, set_bar, copied_raw, CopiedInUse, BarWritten, rising, place_of};
-ghost use Rattle.stores.specs.Stores.{with_first};
-ghost use Rattle.bars.specs.Bars.{row_of};
+ghost use Rattle.std.specs.Prelude.{◌≡◌, [], ◌∷◌, ◌+◌, ◌≤◌, min, length, take, get_or, T};
+ghost use Rattle.std.specs.Option.{option_to_list};
+ghost use Rattle.stores.specs.Code.StoreRows.{SizedRaw, RoomRaw, RoomMerged, bar_at, new_bar_at, set_bar, copied_raw, CopiedInUse, BarWritten, rising, place_of};
+ghost use Rattle.stores.specs.Stores.{raw_bars, with_first};
+ghost use Rattle.bars.specs.Merging.{at_times};
 ghost use Rattle.bars.specs.Code.MergedBars.{with_element};
 ghost use Rattle.stores.specs.Columns.{raw_in, raw_of, merged_in, merged_of, SameRaw, SameMerged};
-ghost use Rattle.stores.specs.Lent.{raw_held, raw_before, raw_after, raw_lent, raw_seen, merged_lent, merged_seen};
 
 use super::rows;
 use crate::{MergedColumns, MergedColumnsMut, RawColumns, RawColumnsMut};
 use bars::{Bar, NewBar};
 
-// A bar's row of prices.
-fn prices_of(b: Bar) -> [f64; 6]
-    ensures { result ≡ row_of b }
-{
-    [b.open, b.close, b.high, b.low, b.vol, b.amount]
-}
-
 impl<'a> RawColumns<'a> {
     // The bar at a place.
+    #[tactic(auto, unfolding(crate::specs::Code::StoreRows::bar_at, crate::specs::Stores::bar_of))]
     pub fn bar(self, at: usize) -> Bar
         requires { RoomRaw (raw_in self) (at + 1) }
         ensures { result ≡ bar_at (raw_in self.entry) at }
     {
-        let [open, close, high, low, vol, amount] = self.prices[at];
-        Bar {
-            time: self.times[at],
-            id: self.ids[at],
-            open,
-            close,
-            high,
-            low,
-            vol,
-            amount,
+        Bar::of(self.times[at], self.ids[at], self.prices[at])
+    }
+
+    // How many rows the columns have: as many as the shortest of them.
+    pub fn rows(self) -> usize
+        ensures { result ≡ min (min (length self.entry.times.now) (length self.entry.ids.now)) (length self.entry.prices.now) }
+    {
+        self.times.len().min(self.ids.len()).min(self.prices.len())
+    }
+
+    // The bar of time t among the first n, if there is one.
+    // Kept: n beside the columns, since callers hold the whole store; and in find_time, since it is public and `named` is its third caller.
+    pub fn named(self, n: usize, t: i64) -> Option<Bar>
+        requires sized { SizedRaw (raw_in self) (length self.times.now) }
+        requires fits { n ≤ length self.times.now }
+        requires rise { T (rising (take n self.times.now)) }
+        ensures { option_to_list result ≡ at_times (take n (raw_bars (raw_in self.entry))) (t ∷ []) }
+    {
+        let p = find_time(self.times, n, t);
+        if p < n {
+            if t < self.times[p] {
+                return None;
+            }
+            return Some(self.bar(p));
         }
+        None
     }
 }
 
 impl<'a> RawColumnsMut<'a> {
     // A bar is appended to the first n by putting it at place n.
+    #[tactic(auto, unfolding(crate::specs::Code::StoreRows::set_bar))]
     pub fn put_bar(&mut self, at: usize, b: Bar)
         requires { RoomRaw (raw_of self.old) (at + 1) }
         ensures store { raw_of self.new ≡ set_bar (raw_of self.old) at b }
@@ -49,7 +59,7 @@ impl<'a> RawColumnsMut<'a> {
     {
         self.times[at] = b.time;
         self.ids[at] = b.id;
-        self.prices[at] = prices_of(b);
+        self.prices[at] = b.prices();
     }
 
     // n bars of another store, from place `from` on, to place `at` of this store.
@@ -79,6 +89,7 @@ impl<'a> RawColumnsMut<'a> {
 
 impl<'a> MergedColumns<'a> {
     // The merged bar at a place.
+    #[tactic(auto, unfolding(crate::specs::Code::StoreRows::new_bar_at))]
     pub fn new_bar(self, at: usize) -> NewBar
         requires { RoomMerged (merged_in self) (at + 1) }
         ensures { result ≡ new_bar_at (merged_in self.entry) at }
@@ -91,20 +102,20 @@ impl<'a> MergedColumns<'a> {
     }
 }
 
-// Kept: the columns that it shares with a store of raw bars are written here again, since a value made of some fields of columns lent to be written
-// no longer shows the caller's slices behind them.
+// Kept: the three columns that raw bars have too are written here again. Tried: a RawColumnsMut made of these three fields. What it holds afterwards
+// is then no longer known to be the caller's slices, so that `SameMerged` didn't close.
 // Of a row of elements only what is in use is copied: what the places beyond a count hold afterwards is not said.
 impl<'a> MergedColumnsMut<'a> {
-    // The bar b at a place, with the first `count` elements of those that stand there, of which the first 100 stay, and then one of
+    // This bar at a place, with the first `count` elements of those that stand there, of which the first 100 stay, and then one of
     // this time: of the row of elements one place is written. With a count of 0 the bar has that element alone.
-    pub fn put_with_element(&mut self, at: usize, b: Bar, count: usize, time: i64)
+    pub fn put_with_element(&mut self, at: usize, bar: Bar, count: usize, time: i64)
         requires { RoomMerged (merged_of self.old) (at + 1) }
-        ensures store { BarWritten (merged_of self.old) at (with_element b (with_first b count (get_or self.old.elements.now at [])) time) (merged_of self.new) }
+        ensures store { BarWritten (merged_of self.old) at (with_element bar (with_first bar count (get_or self.old.elements.now at [])) time) (merged_of self.new) }
         ensures same { SameMerged self.old self.new }
     {
-        self.times[at] = b.time;
-        self.ids[at] = b.id;
-        self.prices[at] = prices_of(b);
+        self.times[at] = bar.time;
+        self.ids[at] = bar.id;
+        self.prices[at] = bar.prices();
         rows::put_element(self.counts, self.elements, at, count, time);
     }
 
@@ -151,41 +162,4 @@ pub fn find_time(times: &[i64], n: usize, t: i64) -> usize
     ensures { result ≡ place_of t (take n times.now) }
 {
     times[..n].partition_point(|x| *x < t)
-}
-
-// ---- the same of loose columns, for those who lend them one by one
-
-pub fn read_bar(times: &[i64], ids: &[i32], prices: &[[f64; 6]], at: usize) -> Bar
-    requires { RoomRaw (raw_lent times ids prices) (at + 1) }
-    ensures { result ≡ bar_at (raw_seen times ids prices) at }
-{
-    RawColumns { times, ids, prices }.bar(at)
-}
-
-pub fn write_bar(times: &mut [i64], ids: &mut [i32], prices: &mut [[f64; 6]], at: usize, b: Bar)
-    requires { RoomRaw (raw_held times ids prices) (at + 1) }
-    ensures { raw_after times ids prices ≡ set_bar (raw_before times ids prices) at b }
-{
-    RawColumnsMut { times, ids, prices }.put_bar(at, b);
-}
-
-pub fn read_new_bar(
-    times: &[i64],
-    ids: &[i32],
-    prices: &[[f64; 6]],
-    counts: &[usize],
-    elements: &[[i64; 101]],
-    at: usize,
-) -> NewBar
-    requires { RoomMerged (merged_lent times ids prices counts elements) (at + 1) }
-    ensures { result ≡ new_bar_at (merged_seen times ids prices counts elements) at }
-{
-    MergedColumns {
-        times,
-        ids,
-        prices,
-        counts,
-        elements,
-    }
-    .new_bar(at)
 }

@@ -6,7 +6,6 @@ mod lent_columns;
 mod rows;
 mod tails;
 
-pub use bar_stores::{find_time, read_bar, read_new_bar, write_bar};
+pub use bar_stores::find_time;
 pub use lent_columns::{MergedColumns, MergedColumnsMut, RawColumns, RawColumnsMut};
 pub use rows::move_rows;
-pub use tails::merge_into_tail;

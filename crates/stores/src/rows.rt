@@ -1,8 +1,8 @@
 // Rows of one column copied or moved, of whatever type: all of these say `copied`, of the rows or of what is in use of
 // them. And one more element in a row.
-ghost use Rattle.std.specs.Prelude.{◌≡◌, [], ◌∷◌, ◌++◌, ◌+◌, ◌≤◌, ◌<◌, length, take, get_or, set};
+ghost use Rattle.std.specs.Prelude.{◌≡◌, [], ◌∷◌, ◌++◌, ◌+◌, ◌≤◌, ◌<◌, length, take, get_or, set, leb};
 ghost use Rattle.bars.specs.Lists.{copied};
-ghost use Rattle.stores.specs.Code.StoreRows.{RowsCopied, RowWritten};
+ghost use Rattle.stores.specs.Code.StoreRows.{RowsCopied, RowWritten, row_in_turn};
 
 // n rows of another slice, from place `from` on, to place `at` of this one.
 pub fn join_rows<T: Copy>(src: &[T], from: usize, dst: &mut [T], at: usize, n: usize)
@@ -32,7 +32,8 @@ fn copy_row(row: &[i64; 101], es: &mut [[i64; 101]], at: usize, count: usize)
 }
 
 // The first `count` places of the row at `from` to the row at `at`. No other row changes.
-// Kept: place by place, since two rows of one slice are not lent at once, and a copy of the whole row is 808 bytes, of which mostly 8 or 16 are in use.
+// Kept: place by place. `split_at_mut` would lend both rows, but which half is read depends on the way that the rows go, and where both are one row
+// there are no two halves. A copy of the whole row would be 808 bytes, of which mostly 8 or 16 are in use.
 fn move_row(es: &mut [[i64; 101]], from: usize, at: usize, count: usize)
     requires { (from < length es.old) × (at < length es.old) }
     ensures { (take count (get_or es.new at []) ≡ take count (get_or es.old from [])) × (es.new ≡ set es.old at (get_or es.new at [])) }
@@ -43,6 +44,8 @@ fn move_row(es: &mut [[i64; 101]], from: usize, at: usize, count: usize)
 }
 
 // n rows of another store's columns, from place `from` on, to place `at`.
+// Kept: the two columns as two slices, and rows by index, here and below. A method of all five columns would have to say that the other three stay; a value made
+// of two of them is no longer known to be the caller's (bar_stores.rt); and a chain over four slices shows neither which row goes where nor that the first goes first.
 pub fn join_in_use(
     cs: &[usize],
     es: &[[i64; 101]],
@@ -62,28 +65,14 @@ pub fn join_in_use(
     }
 }
 
-// n rows from place `from` down to place `at`, the first row first.
-fn down_in_use(cs: &mut [usize], es: &mut [[i64; 101]], from: usize, at: usize, n: usize)
-    requires { (at ≤ from) × (from + n ≤ length cs.old) × (from + n ≤ length es.old) }
-    ensures { RowsCopied cs.old es.old at cs.old es.old from n cs.new es.new }
+// Which of n rows is the k-th that is moved: the first row first where they go down, the last row first where they go up, so
+// that none is written over before it was read.
+fn row_in_turn(from: usize, at: usize, n: usize, k: usize) -> usize
+    requires { k < n }
+    ensures is { result ≡ row_in_turn (leb at from) n k }
+    ensures below { result < n }
 {
-    for i in 0..n {
-        let count = cs[from + i];
-        cs[at + i] = count;
-        move_row(es, from + i, at + i, count);
-    }
-}
-
-// n rows from place `from` up to place `at`, the last row first.
-fn up_in_use(cs: &mut [usize], es: &mut [[i64; 101]], from: usize, at: usize, n: usize)
-    requires { (from ≤ at) × (at + n ≤ length cs.old) × (at + n ≤ length es.old) }
-    ensures { RowsCopied cs.old es.old at cs.old es.old from n cs.new es.new }
-{
-    for i in (0..n).rev() {
-        let count = cs[from + i];
-        cs[at + i] = count;
-        move_row(es, from + i, at + i, count);
-    }
+    if at <= from { k } else { n - 1 - k }
 }
 
 // n rows from place `from` to place `at`, up or down.
@@ -91,10 +80,11 @@ pub fn move_in_use(cs: &mut [usize], es: &mut [[i64; 101]], from: usize, at: usi
     requires { (from + n ≤ length cs.old) × (from + n ≤ length es.old) × (at + n ≤ length cs.old) × (at + n ≤ length es.old) }
     ensures { RowsCopied cs.old es.old at cs.old es.old from n cs.new es.new }
 {
-    if at <= from {
-        down_in_use(cs, es, from, at, n);
-    } else {
-        up_in_use(cs, es, from, at, n);
+    for k in 0..n {
+        let i = row_in_turn(from, at, n, k);
+        let count = cs[from + i];
+        cs[at + i] = count;
+        move_row(es, from + i, at + i, count);
     }
 }
 

@@ -3,10 +3,9 @@
 ghost use Rattle.std.specs.Prelude.{◌≡◌, ◌++◌, ◌+◌, ◌-◌, ◌<◌, ◌≤◌, length, take};
 ghost use Rattle.stores.specs.Stores.{raw_bars};
 ghost use Rattle.stores.specs.Code.StoreRows.{SizedRaw, bar_at};
-ghost use Rattle.stores.specs.Code.TailRows.{rows_from, TailHas, TailTakes};
-ghost use Rattle.bars.specs.Code.MergedBars.{remove_include_bar, merge_bars, behind};
+ghost use Rattle.stores.specs.Code.TailRows.{rows_from, TailTakes};
+ghost use Rattle.bars.specs.Code.MergedBars.{remove_include_bar};
 ghost use Rattle.stores.specs.Columns.{raw_of, SameRaw};
-ghost use Rattle.stores.specs.Lent.{raw_held, raw_before, raw_after};
 
 use crate::RawColumnsMut;
 use bars::{Bar, remove_include_bar};
@@ -34,6 +33,7 @@ impl<'a> RawColumnsMut<'a> {
 
     // One more bar merged into the m bars of the tail that these columns are, behind the bar k where one stands before it.
     // Returns how many bars the tail then has; the rows from that place on stay as they were.
+    // Kept: the whole bar k, of which only the high is asked: the list of bars that is promised (TailTakes) begins with it.
     pub fn merge_bar(&mut self, k: Option<Bar>, m: usize, b: Bar) -> usize
         requires { (m < length self.old.times.now) × SizedRaw (raw_of self.old) (length self.old.times.now) }
         ensures tail { TailTakes k (raw_of self.old) m b (raw_of self.new) result }
@@ -55,24 +55,4 @@ impl<'a> RawColumnsMut<'a> {
             }
         }
     }
-}
-
-// The same of loose columns, with `any` saying whether a bar stands before the tail, and `k` that bar.
-pub fn merge_into_tail(
-    any: bool,
-    k: Bar,
-    times: &mut [i64],
-    ids: &mut [i32],
-    prices: &mut [[f64; 6]],
-    m: usize,
-    b: Bar,
-) -> usize
-    requires { (m < length times.old) × SizedRaw (raw_held times ids prices) (length times.old) }
-    ensures { TailHas any k (raw_before times ids prices) m 1 (raw_after times ids prices) result (merge_bars (behind any k ++ take m (raw_bars (raw_before times ids prices))) b) }
-{
-    let mut tail = RawColumnsMut { times, ids, prices };
-    if any {
-        return tail.merge_bar(Some(k), m, b);
-    }
-    tail.merge_bar(None, m, b)
 }

@@ -1,117 +1,33 @@
 -- A run of raw bars merged into the unfinished store one after the other, each found by its time. Assumes nothing.
 use Prim.Native.Nat.{ℕ, ◌+◌, ◌-◌, ◌<◌, ◌≤◌}
-use mathlib.Core.Bool.{Bool, true, false}
-use mathlib.Core.List.{List, [], ◌∷◌, ◌++◌, map, append-nil, append_assoc}
+use mathlib.Core.List.{List, [], ◌∷◌, ◌++◌, append-nil, append_assoc}
 use mathlib.Core.Option.{some}
 use mathlib.Core.Path.{◌≡◌, refl, ap, sym, ◌∙◌, subst}
 use native.Mathlib.Numerals.{add-one}
 use native.Mathlib.Omega.{arith}
-use lib.ListN.{length, take, drop, get_or, get_or-map, drop_of_length-le}
-use lib.Seq.{length-take-le, get_or-take, drop-cons}
+use lib.ListN.{length, take, drop, get_or, drop_of_length-le}
+use lib.Seq.{drop-cons}
 use lib.IntN.{ℤ, pos}
-use lib.Dec.{T}
-use lib.Signed.{lt_z, lt_z_yes, <ℤ_irrefl}
 use Rattle.bars.specs.declared.Bar.{Bar}
 use Rattle.bars.specs.declared.NewBar.{NewBar}
 use Rattle.bars.specs.Bars.{Merged, merged_of}
 use Rattle.bars.specs.Lists.{keep_if, fold_left, last}
 use Rattle.bars.specs.Merging.{merge_in, merge_all, at_times, again}
-use Rattle.stores.specs.Stores.{RawStore, MergedStore, bar_of, raw_bars, merged_bars}
-use Rattle.stores.specs.Code.StoreRows.{SizedMerged, bar_at, new_bar_at, rising, next_if, place_of}
-use Rattle.stores.proofs.Columns.{raw-length, raw_at, raw-times, merged-length, merged-at}
+use Rattle.stores.specs.Stores.{RawStore, MergedStore, merged_bars}
+use Rattle.stores.specs.Code.StoreRows.{SizedRaw, SizedMerged, new_bar_at}
+use Rattle.stores.proofs.Columns.{merged-length, merged-at}
 use Rattle.bars.proofs.MergedLists.{merge_run_grows}
-use Rattle.stores.proofs.Searching.{timed, named, nameless}
-use Rattle.stores.proofs.KeptBars.{map-take}
+use Rattle.stores.proofs.Searching.{timed}
 use Rattle.strokes.specs.declared.Stand.{Stand}
 use Rattle.strokes.specs.Code.BarSteps.{HasUnfinished, CanMerge, RisingRaw, LastHas, kept_raw, kept_unfinished, with_unfinished, merged_again}
-use Rattle.bars.proofs.Times.{not-lt-le, le_antisym}
 use Rattle.strokes.proofs.StoredRaw.{init-take, last-take}
 use Rattle.strokes.proofs.StoredUnfinished.{room_of, has_unfinished}
-use Rattle.arith.proofs.FloatOrder.{no}
 
 -- ---- the raw bar of a time
 
--- what stands at a time's place is not before it
-not-before_by : (t a : ℤ) (l : List ℤ) (b : Bool) → lt_z a t ≡ b → (place_of t l < length l → lt_z (get_or l (place_of t l) (pos 0)) t ≡ false) → next_if b (place_of t l) < length (a ∷ l)
-    → lt_z (get_or (a ∷ l) (next_if b (place_of t l)) (pos 0)) t ≡ false
-unfolding next_if
-not-before_by t a l true e r h = r (omega arith)
-not-before_by t a l false e r h = e
-
-not-before : (t : ℤ) (l : List ℤ) → place_of t l < length l → lt_z (get_or l (place_of t l) (pos 0)) t ≡ false
-unfolding place_of
-not-before t [] h = let w : ⊥ = omega arith in absurd w
-not-before t (a ∷ l) h = not-before_by t a l (lt_z a t) refl (not-before t l) h
-
-no_bar : Bar
-no_bar = bar_of (pos 0) (pos 0) []
-
--- a stand that keeps n raw bars in a store of K places and nothing else: the laws of a time's raw bar speak of a stand
-abbrev pub keeping : ℕ → ℕ → Stand
-keeping K n =
-    record {
-      minimum = 0;
-      most = 0;
-      rooms = record { raw = K; unfinished = 0; strokes = 0 };
-      raw = n;
-      unfinished = 0;
-      strokes = 0;
-      bars = [];
-      fractals = [];
-      power_places = 0;
-      ratio_places = 0;
-    }
-
-module _ (s : Stand) (m : RawStore) (h : RisingRaw s m) (t : ℤ) (p : ℕ) (place : p ≡ place_of t (take s.raw m.times)) where
-  kept-times : map (λ b. b.time) (kept_raw s m) ≡ take s.raw m.times
-  kept-times = map-take (λ b. b.time) s.raw (raw_bars m) ∙ ap (take s.raw) (raw-times m s.rooms.raw h.sized)
-
-  risen : T (rising (map (λ b. b.time) (kept_raw s m)))
-  risen = subst (λ (l : List ℤ). T (rising l)) (sym kept-times) h.rise
-
-  kept-length : length (kept_raw s m) ≡ s.raw
-  kept-length = length-take-le s.raw (raw_bars m) (rw (raw-length m s.rooms.raw h.sized) h.fits)
-
-  kept-place : place_of t (map (λ b. b.time) (kept_raw s m)) ≡ p
-  kept-place = ap (place_of t) kept-times ∙ sym place
-
-  kept-time : p < s.raw → (get_or (kept_raw s m) p no_bar).time ≡ get_or m.times p (pos 0)
-  unfolding no_bar bar_of
-  kept-time a =
-      sym (get_or-map (λ b. b.time) (kept_raw s m) p no_bar) ∙ ap (λ (l : List ℤ). get_or l p (pos 0)) kept-times ∙ get_or-take s.raw m.times p (pos 0) a
-
-  none_by : (p < s.raw → (get_or (kept_raw s m) p no_bar).time ≡ t → ⊥) → at_times (kept_raw s m) (t ∷ []) ≡ []
-  unfolding at_times
-  none_by d =
-      let q = kept-place in
-      let n = kept-length in
-      append-nil (keep_if (timed (λ b. b.time) t) (kept_raw s m))
-      ∙ nameless (λ b. b.time) t (kept_raw s m) no_bar risen
-      (λ a e. d (omega (arith, a)) (ap (λ (i : ℕ). (get_or (kept_raw s m) i no_bar).time) (sym q) ∙ e))
-
-  -- past all, or a later one stands at its place: no raw bar of the time is kept
-  pub none_past : s.raw ≤ p → at_times (kept_raw s m) (t ∷ []) ≡ []
-  none_past a = none_by (λ b e. omega arith)
-
-  pub none-there : (x : ℤ) → p < s.raw → x ≡ get_or m.times p (pos 0) → lt_z t x ≡ true → at_times (kept_raw s m) (t ∷ []) ≡ []
-  none-there x a q y =
-      none_by (λ b e. <ℤ_irrefl {a = t} (lt_z_yes (subst T (sym (ap (lt_z t) (sym (q ∙ sym (kept-time a) ∙ e)) ∙ y)) tt)))
-
-  pub one-there : (x : ℤ) → p < s.raw → x ≡ get_or m.times p (pos 0) → lt_z t x ≡ false → at_times (kept_raw s m) (t ∷ []) ≡ bar_at m p ∷ []
-  unfolding at_times
-  one-there x a q y =
-      let n = length-take-le s.raw m.times (rw h.sized.times h.fits) in
-      let g : lt_z (get_or m.times p (pos 0)) t ≡ false =
-      ap (λ (u : ℤ). lt_z u t) (sym (get_or-take s.raw m.times p (pos 0) a) ∙ ap (λ (i : ℕ). get_or (take s.raw m.times) i (pos 0)) place)
-      ∙ not-before t (take s.raw m.times) (omega arith) in
-      let e : x ≡ t = le_antisym x t (not-lt-le t x (no (lt_z t x) y)) (not-lt-le x t (no (lt_z x t) (ap (λ (u : ℤ). lt_z u t) q ∙ g))) in
-      let f : t ≡ (get_or (kept_raw s m) p no_bar).time = sym e ∙ q ∙ sym (kept-time a) in
-      let sized = h.sized in
-      let fits = h.fits in
-      append-nil (keep_if (timed (λ b. b.time) t) (kept_raw s m))
-      ∙ ap (λ (u : ℤ). keep_if (timed (λ b. b.time) u) (kept_raw s m)) f
-      ∙ named (λ b. b.time) (kept_raw s m) p no_bar risen (rw kept-length a)
-      ∙ ap (λ (b : Bar). b ∷ []) (get_or-take s.raw (raw_bars m) p no_bar a ∙ raw_at m p no_bar (record { times = omega arith; ids = omega arith; prices = omega arith }))
+-- what the store's times have
+pub named_sized : (s : Stand) (m : RawStore) → RisingRaw s m → SizedRaw m (length m.times)
+named_sized s m h = record { times = refl; ids = h.sized.ids ∙ sym h.sized.times; prices = h.sized.prices ∙ sym h.sized.times }
 
 -- ---- one raw bar merged
 
@@ -238,11 +154,11 @@ module _ (s v : Stand) (m : RawStore) (w : MergedStore) (es : List ℤ) (b : Bar
 module _ (s : Stand) (u : MergedStore) (raw : List Bar) (b : Bar) (k : NewBar) (h : CanMerge s u (merged_again raw (kept_unfinished s u) b)) (has : LastHas s u)
     (reads : k ≡ new_bar_at u (s.unfinished - 1)) (row : length k.elements ≡ 101) where
   -- the number of its elements
-  pub again-count : k.count ≡ get_or u.counts (s.unfinished - 1) 0
+  again-count : k.count ≡ get_or u.counts (s.unfinished - 1) 0
   unfolding new_bar_at
   again-count = ap (λ (x : NewBar). x.count) reads
 
-  pub again-is : merge_all (take (s.unfinished - 1) (merged_bars u)) (at_times raw (take (k.count - 1) k.elements) ++ b ∷ []) ≡ merged_again raw (kept_unfinished s u) b
+  again-is : merge_all (take (s.unfinished - 1) (merged_bars u)) (at_times raw (take (k.count - 1) k.elements) ++ b ∷ []) ≡ merged_again raw (kept_unfinished s u) b
   unfolding merged_again again merged_of
   again-is =
       let n = s.unfinished in
@@ -260,5 +176,25 @@ module _ (s : Stand) (u : MergedStore) (raw : List Bar) (b : Bar) (k : NewBar) (
       let q = init-take k.count k.elements (omega arith) (omega arith) in
       ap (λ (ts : List ℤ). merge_all (take (n - 1) l) (at_times raw ts ++ b ∷ [])) (sym q) ∙ (λ j. merge_all (sym (init-take n l one f) j) (again raw (sym p j) b))
 
-  pub again-room : length (merge_all (take (s.unfinished - 1) (merged_bars u)) (at_times raw (take (k.count - 1) k.elements) ++ b ∷ [])) ≤ s.rooms.unfinished
+  again-room : length (merge_all (take (s.unfinished - 1) (merged_bars u)) (at_times raw (take (k.count - 1) k.elements) ++ b ∷ [])) ≤ s.rooms.unfinished
   again-room = rw again-is h.room
+
+-- the last unfinished bar k as it is read: it has an element or more, and merging all of them but the last, and then b, gives what is asked for
+pub record Newest (s : Stand) (u : MergedStore) (raw : List Bar) (b : Bar) (k : NewBar) : Type 0 where
+  pub some : 1 ≤ k.count
+  pub most : k.count ≤ 101
+  pub is : merge_all (take (s.unfinished - 1) (merged_bars u)) (at_times raw (take (k.count - 1) k.elements) ++ b ∷ []) ≡ merged_again raw (kept_unfinished s u) b
+  pub room : length (merge_all (take (s.unfinished - 1) (merged_bars u)) (at_times raw (take (k.count - 1) k.elements) ++ b ∷ [])) ≤ s.rooms.unfinished
+
+pub newest_is : (s : Stand) (u w : MergedStore) (raw : List Bar) (b : Bar) (k : NewBar) → CanMerge s u (merged_again raw (kept_unfinished s u) b) → LastHas s u → w ≡ u → k ≡ new_bar_at w (s.unfinished - 1)
+    → length k.elements ≡ 101
+    → Newest s u raw b k
+newest_is s u w raw b k h has e q row =
+    let reads = q ∙ ap (λ (x : MergedStore). new_bar_at x (s.unfinished - 1)) e in
+    let count = again-count s u raw b k h has reads row in
+    record {
+      some = rw count has.some;
+      most = rw count has.most;
+      is = again-is s u raw b k h has reads row;
+      room = again-room s u raw b k h has reads row;
+    }

@@ -6,7 +6,7 @@ use mathlib.Core.Path.{◌≡◌, refl, ap, sym, ◌∙◌, subst}
 use mathlib.Core.Bool.{Bool, true, false, cond, not}
 use mathlib.Core.List.{List, [], ◌∷◌, ◌++◌, map, append-nil}
 use mathlib.Core.Option
-use Rattle.std.specs.Prelude.{None}
+use Rattle.std.specs.Prelude.{None, Some}
 use Rattle.std.specs.Prelude as Std
 use Rattle.std.specs.Option.{option_eq}
 use mathlib.Core.Option.{Option, none, some, some-injective, none-ne-some}
@@ -26,7 +26,7 @@ use Rattle.machine.specs.declared.Mark.{Mark}
 use Rattle.machine.specs.declared.Mark.TheVariants.{D, G}
 use Rattle.machine.specs.Fractals.{Fractal, same_mark, is_top, is_bottom, check_fx, taken, push_if, pushed, fxs_after, check_fxs, placed_after}
 use Rattle.check_bi.specs.declared.check_fx.Candle.{Candle}
-use Rattle.check_bi.specs.Code.Scan.{candle_of, top_of, bottom_of}
+use Rattle.check_bi.specs.Code.Scan.{candle_of, top_of, bottom_of, mark_by, mark_of}
 use Rattle.strokes.specs.StateRead.{row_bar, fractal_of, row_fractal, stored_fractals, bare_bar, bare_fractal}
 use Rattle.strokes.specs.Lent.{FractalStore, fractal_store}
 use Rattle.strokes.specs.Code.StrokeSteps.{set_fractal, SizedFractals, plain_bar, fractals_between, last_mark, last_of, Writing, put_if, put_fractal, put_window_if, put_window}
@@ -288,6 +288,21 @@ top_read a b c ex ey ez e h = sym (λ i. top_of (ex i) (ey i) (ez i)) ∙ sym e 
 pub bottom_read : {x y z : Candle} (a b c : Bar) {r t : Bool} → x ≡ candle_of (plain_bar a) → y ≡ candle_of (plain_bar b) → z ≡ candle_of (plain_bar c) → r ≡ bottom_of x y z → r ≡ t → is_bottom a b c ≡ t
 unfolding bottom_of is_bottom candle_of plain_bar
 bottom_read a b c ex ey ez e h = sym (λ i. bottom_of (ex i) (ey i) (ez i)) ∙ sym e ∙ h
+
+-- what a window adds, by the mark of its fractal
+unfoldable pub put_marked : Std.Option Mark → Writing → ℕ → Bar → Bar → Bar → Writing
+put_marked None s at a b c = s
+put_marked (Some m) s at a b c = put_fractal s at m a b c
+
+window_cases : (t u : Bool) (s : Writing) (at : ℕ) (a b c : Bar) → put_window_if t u s at a b c ≡ put_marked (mark_by t u) s at a b c
+unfolding put_window_if mark_by put_marked
+window_cases true u s at a b c = refl
+window_cases false true s at a b c = refl
+window_cases false false s at a b c = refl
+
+pub window_put : (s : Writing) (at : ℕ) (a b c : Bar) (o : Std.Option Mark) → o ≡ mark_of (candle_of (plain_bar a)) (candle_of (plain_bar b)) (candle_of (plain_bar c)) → put_window s at a b c ≡ put_marked o s at a b c
+unfolding mark_of top_of bottom_of is_top is_bottom candle_of plain_bar put_window
+window_put s at a b c o e = window_cases (is_top a b c) (is_bottom a b c) s at a b c ∙ ap (λ (x : Std.Option Mark). put_marked x s at a b c) (sym e)
 
 -- before the first window
 pub write_start : (r : RawStore) (d : FractalStore) (at first end : ℕ)

@@ -35,7 +35,7 @@ use Rattle.machine.specs.Strokes.{Stroke, direction_of, stroke_at, check_bi}
 use Rattle.machine.specs.Break.{high_of, low_of}
 use Rattle.check_bi.specs.declared.scan.FoundBi.{FoundBi}
 use Rattle.check_bi.specs.declared.check_fx.Fx.{Fx}
-use Rattle.check_bi.specs.Code.Scan.{fx_at, fx_placed, top_of}
+use Rattle.check_bi.specs.Code.Scan.{fx_at, fx_placed, top_of, mark_if}
 use Rattle.machine.specs.Feed.{shed_if}
 use Rattle.machine.specs.Soundness.{fewer_fractals, alternates, same_fractal, is_stroke}
 use Rattle.strokes.specs.StateRead.{merged_sized, fractal_sized, raw_sized, stores_sized, counts_sized, elements_sized, sized, state_of, row_bar, fractal_of, no_fractal, bare_bar, bare_fractal, bare_stroke, row_fractal, stored_fractals, stroke_with, strokes_with, settings_of, bar_counts, fractal_counts, total}
@@ -624,20 +624,25 @@ unfolding row_mark row_fractal fractal_of row_bar bar_of is_top
 row-mark t p = refl
 
 -- a row is a top's, by its highs and lows
-pub row_top : (p : List Float) (a b c : ℤ) (r t : Bool)
-    → r ≡ top_of (record { time = a; high = get_or p 2 nan; low = get_or p 3 nan }) (record { time = b; high = get_or p 8 nan; low = get_or p 9 nan })
-    (record { time = c; high = get_or p 14 nan; low = get_or p 15 nan })
-    → r ≡ t
-    → row_mark p ≡ cond t G D
+marked : (t : Bool) → cond t G D ≡ mark_if t
+unfolding mark_if
+marked true = refl
+marked false = refl
+
+pub row_top : (p : List Float) (a b c : ℤ)
+    → row_mark p
+    ≡ mark_if
+    (top_of (record { time = a; high = get_or p 2 nan; low = get_or p 3 nan }) (record { time = b; high = get_or p 8 nan; low = get_or p 9 nan })
+    (record { time = c; high = get_or p 14 nan; low = get_or p 15 nan }))
 unfolding row_mark row_fractal fractal_of row_bar bar_of is_top top_of
-row_top p a b c r t e h =
+row_top p a b c =
     let x = get_or-take 6 p 2 nan (omega arith) in
     let x' = get_or-take 6 p 3 nan (omega arith) in
     let y = get_or-take 6 (drop 6 p) 2 nan (omega arith) ∙ get_or-drop 6 p 2 nan in
     let y' = get_or-take 6 (drop 6 p) 3 nan (omega arith) ∙ get_or-drop 6 p 3 nan in
     let z = get_or-take 6 (drop 12 p) 2 nan (omega arith) ∙ get_or-drop 12 p 2 nan in
     let z' = get_or-take 6 (drop 12 p) 3 nan (omega arith) ∙ get_or-drop 12 p 3 nan in
-    (λ i. cond ((lt (x i) (y i) && lt (z i) (y i)) && (lt (x' i) (y' i) && lt (z' i) (y' i))) G D) ∙ ap (λ (w : Bool). cond w G D) (sym e ∙ h)
+    (λ i. cond ((lt (x i) (y i) && lt (z i) (y i)) && (lt (x' i) (y' i) && lt (z' i) (y' i))) G D) ∙ marked _
 
 stored_at : (f : FractalStore) (n i : ℕ) (z : Fractal) → SizedFractals f n → i < n → get_or (stored_fractals f) i z ≡ row_fractal (get_or f.stamps i []) (get_or f.prices i [])
 unfolding stored_fractals

@@ -9,13 +9,16 @@ use native.Mathlib.Omega.{arith}
 use lib.ListN.{length, take, drop, get_or, length-append, length-drop}
 use lib.Seq.{length-take-le, take-suc, take-append-add, drop_at, append_snoc, get_or-drop}
 use lib.IntN.{ℤ, pos}
+use mir.Syntax.{w64}
+use mir.Val.{SFits, to_z, of_z}
+use mir.ValLaws.{to_z-of_z}
 use Rattle.bars.specs.declared.Bar.{Bar}
 use Rattle.bars.specs.Bars.{Merged, merged_of, own}
 use Rattle.bars.specs.Lists.{last, init, copied}
 use Rattle.bars.specs.Merging.{merge_in, remove_include}
 use Rattle.bars.specs.Code.MergedBars.{remove_include_bar, remove_include_after, in_place_of, with_element}
 use Rattle.bars.proofs.Including.{included_elements, included_own}
-use Rattle.stores.specs.Stores.{MergedStore, raw_part, bar_of, with_first, merged_bars}
+use Rattle.stores.specs.Stores.{RawStore, MergedStore, raw_part, bar_of, with_first, merged_bars}
 use Rattle.stores.specs.Code.StoreRows.{SizedMerged, RoomMerged, BarWritten, bar_at, new_bar_at, set_new_bar, CopiedInUse, place_of}
 use Rattle.bars.proofs.Moves.{take-copied, run_is}
 use Rattle.stores.proofs.Columns.{merged-length, merged-at, merged_appended, merged-bars, raw-times, sized-merged-set}
@@ -63,6 +66,10 @@ module _ (s r : Stand) (m w : MergedStore) (h : SizedMerged m s.rooms.unfinished
       let K = s.rooms.unfinished in
       has_unfinished s r w w (n - k) (drop k (kept_unfinished s m)) e refl (copied-sized m m w 0 k (n - k) K K h h f (omega arith) (omega arith)) (omega arith)
       (ap (take (n - k)) (copied_read m m w 0 k (n - k) K K h h f) ∙ moved_down_lem (merged_bars m) k n b (rw (merged-length m K h) a))
+
+pub begun-none : (s : Stand) (u : MergedStore) (k : ℕ) → SizedMerged u s.rooms.unfinished → s.unfinished ≤ s.rooms.unfinished → k ≡ 0
+    → HasUnfinished s (with_unfinished s s.unfinished) u (drop k (kept_unfinished s u))
+begun-none s u k h g e = has_unfinished s (with_unfinished s s.unfinished) u u s.unfinished _ refl refl h g (ap (λ (i : ℕ). drop i (kept_unfinished s u)) (sym e))
 
 -- ---- merging
 
@@ -302,3 +309,15 @@ module _ (s : Stand) (u k : MergedStore) (at n j : ℕ) (h : CanJoin s u k at n)
       (ap (take (m + i)) (copied_read v k w 0 at m K S first h.strokes f ∙ ap (λ (x : List Merged). copied x 0 (merged_bars k) at m) (copied_read u u v m j i K K h.unfinished h.unfinished d))
       ∙ joined-rows (merged_bars u) (merged_bars k) m j s.unfinished at jn (rw (merged-length u K h.unfinished) fits) (rw (merged-length u K h.unfinished) jr) (rw (merged-length k S h.strokes) (omega arith))
       ∙ sym join-reads)
+
+-- the place at which joining begins, as it is found among the times that are seen
+pub join_found : (s : Stand) (u k w : MergedStore) (at n j : ℕ) → CanJoin s u k at n → SFits w64 (get_or k.times (at + (n - 2)) (pos 0)) → w ≡ u
+    → j ≡ place_of (to_z w64 (of_z w64 (get_or k.times (at + (n - 2)) (pos 0)))) (take s.unfinished w.times)
+    → j ≡ place_of (get_or k.times (at + (n - 2)) (pos 0)) (take s.unfinished u.times)
+join_found s u k w at n j h fits q p = p ∙ (λ i. place_of (to_z-of_z w64 (get_or k.times (at + (n - 2)) (pos 0)) fits i) (take s.unfinished (q i).times))
+
+-- ---- merging, as a step reads the last two bars
+
+-- a bar as it is seen
+pub seen_bar : (m v : MergedStore) (r : RawStore) (i : ℕ) (k : Bar) → v ≡ m → r ≡ raw_part v → k ≡ bar_at r i → k ≡ bar_at (raw_part m) i
+seen_bar m v r i k e q p = p ∙ ap (λ (x : RawStore). bar_at x i) (q ∙ ap raw_part e)

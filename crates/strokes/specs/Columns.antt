@@ -1,5 +1,5 @@
 -- The fractals' columns, and all lent columns, as functions take them, and the stores that they are. Definitions only.
-use Rattle.std.specs.Prelude.{◌≡◌, length}
+use Rattle.std.specs.Prelude.{ℕ, ◌≡◌, ◌-◌, length, take, drop}
 use Rattle.stores.specs.declared.lent_columns.RawColumnsMut.{RawColumnsMut}
 use Rattle.stores.specs.declared.lent_columns.MergedColumnsMut.{MergedColumnsMut}
 use Rattle.stores.specs.Columns.{raw_in, raw_of, merged_in, merged_of, SameRaw, SameMerged}
@@ -15,6 +15,10 @@ fractals_in c = fractal_store c.stamps.now c.prices.now
 
 abbrev pub fractals_of : FractalColumnsMut → FractalStore
 fractals_of c = fractal_store c.stamps.now c.prices.now
+
+-- the rows from `from` up to `to`
+abbrev pub fractals_cut : ℕ → ℕ → FractalStore → FractalStore
+fractals_cut from to s = fractal_store (take (to - from) (drop from s.stamps)) (take (to - from) (drop from s.prices))
 
 -- all stores, lent to be read
 abbrev pub stores_in : StoreColumns → Stores

@@ -1,4 +1,4 @@
-// The stand and its lent stores, and the writing steps of update_bar on them.
+// The stand and its lent stores, and the writing steps of update_bar on them: methods of the stand, each in the file of the store that it writes.
 #![tactic(auto)]
 
 mod fractal_rows;
@@ -8,7 +8,7 @@ mod raw_store;
 mod strokes_store;
 mod unfinished_store;
 
-pub use fractal_rows::{direction_of, end_index, row_mark};
+pub use fractal_rows::{direction_of, end_index, prices_of, row_mark, stamps_of};
 pub use lent_columns::{FractalColumns, FractalColumnsMut, StoreColumns};
 pub use packed::{pack, rows_there, unpack};
 pub use raw_store::count_before;
@@ -26,7 +26,8 @@ pub struct Rooms {
 // number of strokes kept; `bars` and `fractals` have the number of merged bars and of fractals of
 // each, oldest first. A stroke just made counts before one is shed, so there are 65 places. The last
 // two are settings: how many decimal places power and ratios are rounded to.
-// Kept: arrays of a fixed length with the number of strokes beside, since a stand is a value without heap.
+// Kept: arrays of a fixed length with the number of strokes beside, since a stand is a value without heap; two arrays and none of pairs, since the C interface
+// has a row for each of the two (packed.rt).
 #[derive(Clone, Copy)]
 pub struct Stand {
     pub minimum: usize,

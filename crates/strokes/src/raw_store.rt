@@ -21,6 +21,7 @@ fn early(times: &[i64], t: i64) -> usize
 
 // How many of the first n times come before the first one that is not before t: the raw bars to drop, and the unfinished bars that
 // joining leaves out. What is dropped is passed once and no more, so that a feed's share is a constant.
+// Kept: n beside the times: callers hold the whole column, and the part is cut here, once for both of them.
 pub fn count_before(times: &[i64], n: usize, t: i64) -> usize
     requires { n ≤ length times.now }
     ensures { result ≡ place_of t (take n times.now) }
@@ -30,7 +31,7 @@ pub fn count_before(times: &[i64], n: usize, t: i64) -> usize
 
 impl Stand {
     // A later bar is put behind the last one, and one that is not later stands in place of the last.
-    // Kept: `later` is what the machine's own step is told by (raw_with), here and in writing.
+    // Kept: `later` as a bool, since the machine's step takes a Bool (raw_with): an enum would be turned into that in each contract, here and in writing.
     pub fn put_raw(self, raw: &mut RawColumnsMut<'_>, later: bool, b: Bar) -> usize
         requires fact_1 { SizedRaw (raw_of raw.old) self.rooms.raw }
         requires fact_2 { self.raw ≤ self.rooms.raw }

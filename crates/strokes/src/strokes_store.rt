@@ -1,14 +1,13 @@
 // The lent store of strokes: the merged bars of the kept strokes, oldest first, and their fractals.
-ghost use Rattle.std.specs.Prelude.{◌≡◌, ◌+◌, ◌-◌, ◌/◌, ◌≤◌, ◌<◌, [], ◌∷◌, ◌++◌, length, take, drop, true, ltb, sum};
+ghost use Rattle.std.specs.Prelude.{◌≡◌, ◌+◌, ◌-◌, ◌≤◌, ◌<◌, [], ◌∷◌, ◌++◌, length, take, drop, true, ltb, sum};
 ghost use Rattle.stores.specs.Code.StoreRows.{RoomRaw};
 ghost use Rattle.strokes.specs.StateRead.{bar_counts, fractal_counts, total};
 ghost use Rattle.strokes.specs.Columns.{fractals_of, SameFractals};
-ghost use Rattle.check_bi.specs.Code.Scan.{candle_of};
-ghost use Rattle.strokes.specs.Code.StrokeSteps.{set_fractal, RoomFractals, plain_bar, fractals_between, writing, put_fractal, put_window, LastStands, last_read, Fewer, Kept, Makeable, Made, ShedWhere, copied_fractals, moved_fractals, shifted, shed_stand, with_stroke, windows_end};
+ghost use Rattle.strokes.specs.Code.StrokeSteps.{set_fractal, RoomFractals, fractals_between, writing, put_fractal, put_window, LastStands, last_read, Fewer, Kept, Makeable, Made, ShedWhere, copied_fractals, moved_fractals, shifted, shed_stand, with_stroke, windows_end};
 ghost use Rattle.strokes.specs.FractalRows.{put_fractals};
 ghost use Rattle.stores.specs.Columns.{raw_in, merged_in, merged_of, SameMerged};
 
-use super::fractal_rows::{end_index, row_direction};
+use super::fractal_rows::{end_index, prices_of, row_direction, stamps_of};
 use crate::{FractalColumnsMut, Stand};
 use bars::Bar;
 use check_bi::Candle;
@@ -24,6 +23,7 @@ pub struct Written {
 
 // What the break test asks of the last stroke: the higher high and the lower low of its end fractals, its
 // direction, how many bars it has, the time of its last bar but one, and the place where its bars begin.
+// Kept: beside asking's Last, which is also made of a stroke that is only found yet and has no place in the store, and of which a break asks the mark.
 #[derive(Clone, Copy)]
 pub struct LastStroke {
     pub high: f64,
@@ -36,39 +36,21 @@ pub struct LastStroke {
 
 // ---- the fractals of a run of bars
 
-// Of a bar, what fractals are found by.
-fn candle_of(b: Bar) -> Candle
-    ensures { result ≡ candle_of (plain_bar b) }
-{
-    Candle {
-        time: b.time,
-        high: b.high,
-        low: b.low,
-    }
-}
-
 impl<'a> FractalColumnsMut<'a> {
     // The rows of the fractal of these three bars.
+    // Kept: three bars as three parameters, here and below, as the definitions have them (set_fractal, put_fractal, put_window).
     fn put_bars(&mut self, at: usize, a: Bar, b: Bar, c: Bar)
         requires { RoomFractals (fractals_of self.old) (at + 1) }
         ensures store { fractals_of self.new ≡ set_fractal (fractals_of self.old) at a b c }
         ensures same { SameFractals self.old self.new }
     {
-        self.stamps[at] = [
-            a.time,
-            b.time,
-            c.time,
-            i64::from(a.id),
-            i64::from(b.id),
-            i64::from(c.id),
-        ];
-        self.prices[at] = [
-            a.open, a.close, a.high, a.low, a.vol, a.amount, b.open, b.close, b.high, b.low, b.vol,
-            b.amount, c.open, c.close, c.high, c.low, c.vol, c.amount,
-        ];
+        self.stamps[at] = stamps_of(a, b, c);
+        self.prices[at] = prices_of(a, b, c);
     }
 
     // The fractal of mark m, unless the last one taken has this mark.
+    // Kept: beside the walk of reports (FractalWalk), which hands fractals out one by one: here each is written at once, and no more is kept than how
+    // many they are and the last one's mark.
     fn put_fractal(&mut self, at: usize, w: Written, m: Mark, a: Bar, b: Bar, c: Bar) -> Written
         requires { RoomFractals (fractals_of self.old) (at + w.count + 1) }
         ensures store { writing (fractals_of self.new) result ≡ put_fractal (writing (fractals_of self.old) w) at m a b c }
@@ -90,16 +72,10 @@ impl<'a> FractalColumnsMut<'a> {
         ensures store { writing (fractals_of self.new) result ≡ put_window (writing (fractals_of self.old) w) at a b c }
         ensures same { SameFractals self.old self.new }
     {
-        let x = candle_of(a);
-        let y = candle_of(b);
-        let z = candle_of(c);
-        if check_bi::is_top(x, y, z) {
-            return self.put_fractal(at, w, Mark::G, a, b, c);
+        match check_bi::mark_of(Candle::of(a), Candle::of(b), Candle::of(c)) {
+            Some(m) => self.put_fractal(at, w, m, a, b, c),
+            None => w,
         }
-        if check_bi::is_bottom(x, y, z) {
-            return self.put_fractal(at, w, Mark::D, a, b, c);
-        }
-        w
     }
 
     // check_fxs of the source, of the bars from place `first` on and before place `end`, written from place `at` on: how many there are.
@@ -115,6 +91,7 @@ impl<'a> FractalColumnsMut<'a> {
             count: 0,
             last: None,
         };
+        // Kept: by place, since a bar's row lies in three columns: `windows` of each would have to be zipped, and a bar be made of three windows.
         for i in first..end.saturating_sub(2) {
             w = self.put_window(at, w, bars.bar(i), bars.bar(i + 1), bars.bar(i + 2));
         }
@@ -134,6 +111,7 @@ impl<'a> FractalColumnsMut<'a> {
 
     // The fractals of all strokes but the oldest, which has `first` bars, down to the beginning. A stroke has fewer fractals than bars, so that many rows are free: only
     // those in use are moved, stroke by stroke.
+    // Kept: by index: `bars.iter().zip(fractals).take(n).skip(1)` says in four steps what `1..n` says, and the place to move to is carried all the same.
     fn move_down(&mut self, bars: &[u32; 65], fractals: &[u32; 65], n: usize, first: usize)
         requires fact_1 { n ≤ 65 }
         requires fact_2 { Fewer (drop 1 (take n bars.now)) (drop 1 (take n fractals.now)) }
@@ -161,6 +139,7 @@ fn sum_of(counts: &[u32]) -> usize
 }
 
 // The first n numbers of bars, added up: where the next stroke begins.
+// Kept: of the counts and not of a stand, as `total` in specs/ is: a method of the stand would save its callers the word `.bars` and promise the same.
 pub fn total_bars(counts: [u32; 65], n: usize) -> usize
     requires fact_1 { n ≤ 65 }
     requires fact_2 { total (take n counts) < 9223372036854775808 }
@@ -177,31 +156,8 @@ fn one_down(mut counts: [u32; 65]) -> [u32; 65]
     counts
 }
 
-// The stand without its oldest stroke.
-fn shed_counts(stand: Stand) -> Stand
-    requires { (1 ≤ stand.strokes) × (stand.strokes ≤ 65) }
-    ensures { (result ≡ shed_stand stand) × (bar_counts result ≡ drop 1 (bar_counts stand)) × (fractal_counts result ≡ drop 1 (fractal_counts stand)) }
-{
-    Stand {
-        strokes: stand.strokes - 1,
-        bars: one_down(stand.bars),
-        fractals: one_down(stand.fractals),
-        ..stand
-    }
-}
-
-// The stand with one stroke more.
-fn with_stroke(mut stand: Stand, n: usize, m: usize) -> Stand
-    requires { (stand.strokes ≤ 64) × (n < 4294967296) × (m < 4294967296) }
-    ensures { (result ≡ with_stroke stand n m) × (bar_counts result ≡ bar_counts stand ++ n ∷ []) × (fractal_counts result ≡ fractal_counts stand ++ m ∷ []) × (length (bar_counts stand) ≡ length (fractal_counts stand)) }
-{
-    stand.bars[stand.strokes] = n as u32;
-    stand.fractals[stand.strokes] = m as u32;
-    stand.strokes += 1;
-    stand
-}
-
 // Where the windows of a stroke's fractals end.
+// Kept: a test and no `(first + bars + 1).min(n)`, since that sum could be too large for a usize.
 fn windows_end(first: usize, bars: usize, n: usize) -> usize
     requires { first + bars ≤ n }
     ensures { result ≡ windows_end first bars n }
@@ -213,6 +169,8 @@ fn windows_end(first: usize, bars: usize, n: usize) -> usize
 // ---- the last stroke
 
 // The last stroke, where the strokes' bars take up `used` places, for a caller that has added them up.
+// Kept: of two columns, here and in last_stroke, since it reads no others: with all stores as one value the contracts would name these two of them again.
+// Kept: a fractal row's high and low by their numbers, 8 and 9: a pattern has eighteen places for these two.
 pub fn last_stroke_within(stand: Stand, st: &[i64], fp: &[[f64; 18]], used: usize) -> LastStroke
     requires fact_1 { LastStands stand (length st.now) }
     requires fact_2 { length fp.now ≡ length st.now }
@@ -248,6 +206,30 @@ pub fn last_stroke(stand: Stand, st: &[i64], fp: &[[f64; 18]]) -> LastStroke
 }
 
 impl Stand {
+    // The stand without its oldest stroke.
+    fn shed_counts(self) -> Stand
+        requires { (1 ≤ self.strokes) × (self.strokes ≤ 65) }
+        ensures { (result ≡ shed_stand self) × (bar_counts result ≡ drop 1 (bar_counts self)) × (fractal_counts result ≡ drop 1 (fractal_counts self)) }
+    {
+        Stand {
+            strokes: self.strokes - 1,
+            bars: one_down(self.bars),
+            fractals: one_down(self.fractals),
+            ..self
+        }
+    }
+
+    // The stand with one stroke more.
+    fn with_stroke(mut self, n: usize, m: usize) -> Stand
+        requires { (self.strokes ≤ 64) × (n < 4294967296) × (m < 4294967296) }
+        ensures { (result ≡ with_stroke self n m) × (bar_counts result ≡ bar_counts self ++ n ∷ []) × (fractal_counts result ≡ fractal_counts self ++ m ∷ []) × (length (bar_counts self) ≡ length (fractal_counts self)) }
+    {
+        self.bars[self.strokes] = n as u32;
+        self.fractals[self.strokes] = m as u32;
+        self.strokes += 1;
+        self
+    }
+
     // The oldest stroke goes, and its bars and fractals with it.
     pub fn shed(
         self,
@@ -264,7 +246,7 @@ impl Stand {
         let first = self.bars[0] as usize;
         strokes.move_bars(first, 0, used - first);
         fractals.move_down(&self.bars, &self.fractals, self.strokes, first);
-        shed_counts(self)
+        self.shed_counts()
     }
 
     // The oldest stroke beyond the most goes.
@@ -303,6 +285,6 @@ impl Stand {
         let end = windows_end(first, bars, self.unfinished);
         strokes.join(used, unfinished, first, bars);
         let m = fractals.check_fxs(used, unfinished.bars(), first, end);
-        with_stroke(self, bars, m)
+        self.with_stroke(bars, m)
     }
 }

@@ -1,5 +1,5 @@
 // The writing steps of a feed on the unfinished store. Those of the stand hand back how many unfinished bars there are then, and not the stand, which would be copied whole. Each also says that no bar comes to have more than 101 elements.
-ghost use Rattle.std.specs.Prelude.{◌≡◌, [], ◌∷◌, ◌+◌, ◌≤◌, drop, T};
+ghost use Rattle.std.specs.Prelude.{[], ◌∷◌, ◌+◌, ◌≤◌, drop, T};
 ghost use Rattle.stores.specs.Code.StoreRows.{SizedMerged};
 ghost use Rattle.bars.specs.Merging.{merge_in, merge_all, at_times};
 ghost use Rattle.machine.specs.Break.{joined};
@@ -13,7 +13,7 @@ use bars::Bar;
 use stores::{MergedColumns, MergedColumnsMut, RawColumns};
 
 impl Stand {
-    // The unfinished bars begin at place k: those before it go. This is the first stroke's cut, and the rest after a stroke.
+    // The unfinished bars begin at place k: those before it go. This is the first stroke's cut, and the rest after a stroke. Mostly there are none, and nothing is moved.
     pub fn begin_at(self, unfinished: &mut MergedColumnsMut<'_>, k: usize) -> usize
         requires fact_1 { SizedMerged (merged_of unfinished.old) self.rooms.unfinished }
         requires fact_2 { self.unfinished ≤ self.rooms.unfinished }
@@ -22,6 +22,9 @@ impl Stand {
         ensures sized { StaySized self.unfinished (merged_of unfinished.old) result (merged_of unfinished.new) }
         ensures same { SameMerged unfinished.old unfinished.new }
     {
+        if k == 0 {
+            return self.unfinished;
+        }
         let left = self.unfinished - k;
         unfinished.move_bars(k, 0, left);
         left
@@ -29,6 +32,8 @@ impl Stand {
 
     // A bar that passed its questions is merged into the unfinished bars. Where it is merged with the last of them, that bar's elements stay
     // where they are, and one is put behind them.
+    // Kept: a bar is put behind the others in two places. With an Option of the merged bar first and one match behind it, the test for two bars would
+    // stand in the first, and the place of the last bar would be worked out in both.
     pub fn put_merged(self, unfinished: &mut MergedColumnsMut<'_>, b: Bar) -> usize
         requires { CanMerge self (merged_of unfinished.old) (merge_in (kept_unfinished self (merged_of unfinished.old)) b) }
         ensures has { HasUnfinished self (with_unfinished self result) (merged_of unfinished.new) (merge_in (kept_unfinished self (merged_of unfinished.old)) b) }
@@ -61,16 +66,10 @@ impl Stand {
         ensures sized { StaySized self.unfinished (merged_of unfinished.old) result (merged_of unfinished.new) }
         ensures same { SameMerged unfinished.old unfinished.new }
     {
-        let n = self.raw;
-        let m = self.unfinished;
-        let p = stores::find_time(raw.times, n, t);
-        if p < n {
-            if t < raw.times[p] {
-                return m;
-            }
-            return self.put_merged(unfinished, raw.bar(p));
+        match raw.named(self.raw, t) {
+            Some(b) => self.put_merged(unfinished, b),
+            None => self.unfinished,
         }
-        m
     }
 
     // A bar with the last time: the last unfinished bar is taken off, and its elements but the last go through merging again, and then b.
@@ -90,10 +89,13 @@ impl Stand {
     {
         let at = self.unfinished - 1;
         let newest = unfinished.seen().new_bar(at);
-        let mut stand = self;
-        stand.unfinished = at;
-        for i in 0..newest.count - 1 {
-            stand.unfinished = stand.put_named(raw, unfinished, newest.elements[i]);
+        let others = &newest.elements[..newest.count - 1];
+        let mut stand = Stand {
+            unfinished: at,
+            ..self
+        };
+        for time in others {
+            stand.unfinished = stand.put_named(raw, unfinished, *time);
         }
         stand.put_merged(unfinished, b)
     }

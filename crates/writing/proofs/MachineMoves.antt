@@ -5,7 +5,6 @@ use mathlib.Core.Path.{◌≡◌, refl, ap, sym, ◌∙◌, subst}
 use mathlib.Core.Bool.{Bool, true, false, ◌&&◌}
 use mathlib.Core.List.{List, [], ◌∷◌, ◌++◌, map, map-append}
 use mathlib.Core.Option.{Option, none, some}
-use mathlib.Core.Logic.{inl, inr}
 use lib.ListN.{length, drop, length-drop}
 use lib.Seq.{length-take-le}
 use lib.Dec.{T, leb, leb→le}
@@ -30,7 +29,7 @@ use Rattle.std.specs.declared.option.Option as code
 use Rattle.std.specs.Prelude.{Some, None, is_some}
 use Rattle.asking.specs.Code.Asked.{last_of, time_or0}
 use Rattle.asking.proofs.PlanMeans.{LastIs, KeptLast, Planned, plan_means, add_unbroken, moved_as}
-use Rattle.writing.specs.Code.WriteSteps.{add_if, rest_of}
+use Rattle.writing.specs.Code.WriteSteps.{add_if}
 use Rattle.writing.specs.Code.Written.{plan_with}
 
 -- ---- every stroke has at least two bars

@@ -23,7 +23,6 @@ use Rattle.strokes.specs.Code.StrokeSteps.{Kept, Made, Makeable, last_place, las
 use Rattle.std.specs.Prelude.{Option, Some, is_some}
 use Rattle.check_bi.specs.declared.scan.FoundBi.{FoundBi}
 use Rattle.asking.specs.Code.FeedPlan.{start_in, bars_made}
-use Rattle.strokes.proofs.StoredStates.{kept-unfinished}
 use Rattle.strokes.proofs.StoredStrokes.{last-sums}
 use Rattle.writing.specs.Code.WriteSteps.{MadeWhere, CanBreak, add_if, left_stand, left_bars, drop_earlier}
 
@@ -32,13 +31,6 @@ use Rattle.writing.specs.Code.WriteSteps.{MadeWhere, CanBreak, add_if, left_stan
 itself : (s : Stand) → s ≡ with_unfinished s s.unfinished
 unfolding with_unfinished
 itself s = refl
-
-pub begun-none : (s : Stand) (u : MergedStore) (k : ℕ) → SizedMerged u s.rooms.unfinished → s.unfinished ≤ s.rooms.unfinished → k ≡ 0
-    → HasUnfinished s s u (drop k (kept_unfinished s u))
-begun-none s u k h g e =
-    let l = kept_unfinished s u in
-    let d : l ≡ drop k l = ap (λ (i : ℕ). drop i l) (sym e) in
-    record { bars = d; stand = itself s ∙ ap (with_unfinished s) (sym (kept-unfinished s u h g) ∙ ap length d); sized = h }
 
 -- ---- the last stroke is joined
 

@@ -14,6 +14,9 @@ use strokes::{FractalColumnsMut, Stand};
 
 // The machine's step on the stores. The raw store is written last, since the elements of a replaced bar are read from it as it was. For the feed above: a caller proves that the stand is sound, that
 // questions 5 to 12 have passed, and that `later` and `plan` are what was asked.
+// Kept: `later` as a bool, as in put_bar (unfinished_moves.rt) and for the same reason.
+// Kept: the stand, four values to be written and the plan as parameters, here and in the steps. Tried: a value of the four, and one that borrows them.
+// What a slice ends as is known to a caller that put it into a store's columns, and no longer where that store stands in a larger value.
 pub fn write(
     stand: Stand,
     raw: &mut RawColumnsMut<'_>,
@@ -32,8 +35,10 @@ pub fn write(
     ensures same_fractals { SameFractals fractals.old fractals.new }
 {
     let n = put_bar(stand, raw.seen(), unfinished, later, b);
-    let mut put = stand;
-    put.unfinished = n;
+    let put = Stand {
+        unfinished: n,
+        ..stand
+    };
     let mut wrote = update_bi(put, unfinished, strokes, fractals, plan);
     let kept = keep_raw(wrote.stand, raw, strokes.seen(), later, b);
     wrote.stand.raw = kept;

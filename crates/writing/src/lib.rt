@@ -11,6 +11,7 @@ use strokes::Stand;
 
 // The stand after a feed, and how many strokes it made, broke and shed: each none or one.
 // Kept: numbers, as the machine's events are, and as the C interface tells them.
+// Kept: not feed's Events: the definitions in its contracts (added, events_in) are feed's, which lies above.
 #[derive(Clone, Copy)]
 pub struct Wrote {
     pub stand: Stand,

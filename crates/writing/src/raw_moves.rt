@@ -1,5 +1,5 @@
 // What a feed writes to the raw store.
-ghost use Rattle.std.specs.Prelude.{◌≡◌, true, false, ◌<◌, ◌≤◌, length, get_or, pos};
+ghost use Rattle.std.specs.Prelude.{length, get_or, pos};
 ghost use Rattle.machine.specs.Feed.{raw_with};
 ghost use Rattle.strokes.specs.Code.BarSteps.{HasRaw, kept_raw, with_raw, raw_only};
 ghost use Rattle.writing.specs.Code.WriteSteps.{CanKeep, drop_earlier};
@@ -11,6 +11,7 @@ use strokes::Stand;
 
 // The raw bar is put on or replaces the last one, and with a stroke kept, raw bars earlier than the stroke store's first time are dropped. Hands back how
 // many there are then.
+// Kept: `later` as a bool, as in put_bar (unfinished_moves.rt) and for the same reason.
 pub fn keep_raw(
     stand: Stand,
     raw: &mut RawColumnsMut<'_>,
@@ -26,7 +27,6 @@ pub fn keep_raw(
     if stand.strokes == 0 {
         return n;
     }
-    let mut put = stand;
-    put.raw = n;
+    let put = Stand { raw: n, ..stand };
     put.drop_raw(raw, strokes.times[0])
 }

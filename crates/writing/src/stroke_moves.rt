@@ -34,6 +34,8 @@ pub fn make_if(
 }
 
 // The stand once n unfinished bars are left, by whether its last stroke breaks.
+// Kept: a copy that is changed, since the number of strokes changes in one case alone: `Stand { unfinished: n, strokes, ..stand }` would need an if
+// with an else before it.
 fn left_with(stand: Stand, broken: Option<usize>, n: usize) -> Stand
     requires { is_some broken ≡ true → 1 ≤ stand.strokes }
     ensures { result ≡ with_unfinished (left_stand (is_some broken) stand) n }

@@ -1,6 +1,6 @@
 // What a feed writes to the unfinished store: the bar that is merged, and the bars that are left once strokes were made or broken. Each
 // step hands back how many unfinished bars there are then, and also says that no bar comes to have more than 101 elements.
-ghost use Rattle.std.specs.Prelude.{◌≡◌, is_some, ◌≤◌, drop, T};
+ghost use Rattle.std.specs.Prelude.{is_some, ◌≤◌, drop, T};
 ghost use Rattle.stores.specs.Columns.{raw_in, merged_in, merged_of, SameMerged};
 ghost use Rattle.stores.specs.Code.StoreRows.{SizedMerged};
 ghost use Rattle.machine.specs.Break.{joined};
@@ -16,6 +16,7 @@ use stores::{MergedColumns, MergedColumnsMut, RawColumns};
 use strokes::Stand;
 
 // A bar that passed its questions is merged into the unfinished bars. The raw store is as it was before the bar came.
+// Kept: `later` as a bool, since the machine's step takes a Bool (merged_with, raw_with): an enum would be turned into that in each contract.
 pub fn put_bar(
     stand: Stand,
     raw: RawColumns<'_>,
@@ -32,21 +33,6 @@ pub fn put_bar(
         return stand.put_merged(unfinished, b);
     }
     stand.put_again(raw, unfinished, b)
-}
-
-// The unfinished bars begin at place k.
-fn begin_from(stand: Stand, unfinished: &mut MergedColumnsMut<'_>, k: usize) -> usize
-    requires fact_1 { SizedMerged (merged_of unfinished.old) stand.rooms.unfinished }
-    requires fact_2 { stand.unfinished ≤ stand.rooms.unfinished }
-    requires fact_3 { k ≤ stand.unfinished }
-    ensures has { HasUnfinished stand (with_unfinished stand result) (merged_of unfinished.new) (drop k (kept_unfinished stand (merged_of unfinished.old))) }
-    ensures sized { StaySized stand.unfinished (merged_of unfinished.old) result (merged_of unfinished.new) }
-    ensures same { SameMerged unfinished.old unfinished.new }
-{
-    if k == 0 {
-        return stand.unfinished;
-    }
-    stand.begin_at(unfinished, k)
 }
 
 // The last stroke, whose bars stand in the stroke store, breaks.
@@ -82,10 +68,12 @@ pub fn leave(
     ensures same { SameMerged unfinished.old unfinished.new }
 {
     let rest = plan.cut + asking::end_in(plan.found);
-    let n = begin_from(stand, unfinished, rest);
+    let n = stand.begin_at(unfinished, rest);
     if plan.broken.is_some() {
-        let mut left = stand;
-        left.unfinished = n;
+        let left = Stand {
+            unfinished: n,
+            ..stand
+        };
         return join_last(left, unfinished, strokes);
     }
     n

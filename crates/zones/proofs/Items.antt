@@ -8,7 +8,6 @@ use mathlib.Core.List.{List, [], ◌∷◌, ◌++◌, map, map-append}
 use lib.ListN.{length, drop, get_or, set, length-append, length-map}
 use lib.Seq.{drop-cons, append_snoc, set-append_seam}
 use Rattle.strokes.specs.FractalRows.{pasted}
-use Rattle.strokes.proofs.StoredFractals.{length-pasted}
 use Rattle.zones.specs.Code.StrokesRead.{items_from}
 
 module _ {A : Type 0} where
@@ -63,9 +62,6 @@ module _ {A : Type 0} where
       ∙ sym (append_snoc r v (drop (suc n) d))
       ∙ ap (λ (k : ℕ). (r ++ v ∷ []) ++ drop k d) e
       ∙ sym (front_is d (r ++ v ∷ []))
-
-  pub put_length : (d r : List A) → length r ≤ length d → length (pasted d 0 r) ≡ length d
-  put_length d r h = length-pasted d 0 r (omega arith)
 
 -- the next row of a column
 pub row-turn : {A B : Type 0} (row : A → B) (g : ℕ → A) (d l : List B) (p j : ℕ) (v : B) → l ≡ pasted d 0 (map row (items_from g p j)) → j < length d → v ≡ row (g (p + j))

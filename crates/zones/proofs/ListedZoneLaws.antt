@@ -6,6 +6,7 @@ use mathlib.Core.Path.{◌≡◌, refl, ap, sym, ◌∙◌, subst}
 use mathlib.Core.Bool.{Bool, true, false, ◌&&◌}
 use mathlib.Core.List.{List, [], ◌∷◌, foldl}
 use lib.ListN.{length, get_or, length-map}
+use lib.Seq.{drop-cons}
 use lib.Dec.{leb}
 use Rattle.strokes.specs.declared.Stand.{Stand}
 use Rattle.strokes.specs.Lent.{Stores}
@@ -23,6 +24,10 @@ use Rattle.zones.specs.ListedZones.{zones_fit, strokes_fit, ZonesCall, zones_cal
 use Rattle.zones.proofs.ZoneStates.{states_few, states_length}
 use Rattle.zones.proofs.ZoneWalks.{zones_done, states_inside, room-inside, zones-written}
 use Rattle.zones.proofs.NamedRunLaws.{number_some, named-is, three_fit}
+
+-- whatever stands for what lies past the end, inside a list it is the same
+pub get_d_any : {A : Type 0} (l : List A) (j : ℕ) (x y : A) → j < length l → get_or l j x ≡ get_or l j y
+get_d_any l j x y h = ap (λ r. get_or r 0 x) (sym (drop-cons l j x h) ∙ drop-cons l j y h)
 
 pub zones-listed : (s : Stand) (m : Stores) (lb : length s.bars ≡ 65) (lf : length s.fractals ≡ 65) (first count n : ℕ) (d : ZoneColumns) (e : StrokeColumns) (r : ZonesCall)
     → n ≡ run_failed s m first count

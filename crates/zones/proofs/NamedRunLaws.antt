@@ -57,21 +57,18 @@ module _ (s : Stand) (m : Stores) (lb : length s.bars ≡ 65) (lf : length s.fra
   unfolding run_exists
   exists-is h = ap (leb (first + count)) (facts s m lb lf h).strokes-length
 
-  pub refused_4 : (b : Bool) → b ≡ question4 s m → b ≡ false → 4 ≡ run_failed s m first count
+  pub refused_4 : question4 s m ≡ false → 4 ≡ run_failed s m first count
   unfolding run_failed failed_if
-  refused_4 b e q = sym (ap (λ (x : Bool). failed_if x (run_exists (state_of s m).strokes first count)) (sym e ∙ q))
+  refused_4 q = sym (ap (λ (x : Bool). failed_if x (run_exists (state_of s m).strokes first count)) q)
 
-  pub refused_13 : (b x : Bool) → b ≡ question4 s m → b ≡ true → x ≡ leb (first + count) s.strokes → x ≡ false → 13 ≡ run_failed s m first count
-  unfolding run_failed failed_if
-  refused_13 b x e q d p =
-      let h = is-sound s m (sym e ∙ q) in
-      sym (λ i. failed_if ((sym e ∙ q) i) ((exists-is h ∙ sym d ∙ p) i))
+  module _ (q : question4 s m ≡ true) (x : Bool) (d : x ≡ leb (first + count) s.strokes) where
+    pub refused_13 : x ≡ false → 13 ≡ run_failed s m first count
+    unfolding run_failed failed_if
+    refused_13 p = sym (λ i. failed_if (q i) ((exists-is (is-sound s m q) ∙ sym d ∙ p) i))
 
-  pub passed_13 : (b x : Bool) → b ≡ question4 s m → b ≡ true → x ≡ leb (first + count) s.strokes → x ≡ true → 0 ≡ run_failed s m first count
-  unfolding run_failed failed_if
-  passed_13 b x e q d p =
-      let h = is-sound s m (sym e ∙ q) in
-      sym (λ i. failed_if ((sym e ∙ q) i) ((exists-is h ∙ sym d ∙ p) i))
+    pub passed_13 : x ≡ true → 0 ≡ run_failed s m first count
+    unfolding run_failed failed_if
+    passed_13 p = sym (λ i. failed_if (q i) ((exists-is (is-sound s m q) ∙ sym d ∙ p) i))
 
   -- what a run that passed can count on
   module _ (n : ℕ) (e : n ≡ run_failed s m first count) (z : n ≡ 0) where

@@ -3,13 +3,14 @@
 use Prim.Native.Nat.{ℕ, zero, suc, ◌+◌, ◌%◌}
 use native.Mathlib.Omega.{arith}
 use mathlib.Core.Path.{◌≡◌, refl, ap, sym, ◌∙◌}
-use mathlib.Core.Bool.{Bool, true, ◌&&◌}
+use mathlib.Core.Bool.{Bool, true, false, ◌&&◌}
 use mathlib.Core.List.{List, [], ◌∷◌, foldl}
 use lib.ListN.{length}
 use lib.Dec.{leb, eqb, leb-zero, leb-suc-suc}
 use lib.Signed.{lt_z}
 use lib.Ieee.{Float}
 use Rattle.arith.specs.Order.{max_of, min_of}
+use Rattle.std.specs.List.{fold}
 use Rattle.bars.specs.Lists as Lists
 use Rattle.named.specs.Folds.{greatest, least}
 use Rattle.zones.specs.declared.Summary.{Summary}
@@ -111,3 +112,20 @@ pub way-grown : (d : Direction) (a : Summary) (l : List Summary) → goes_of d (
 unfolding goes_of goes
 way-grown Up a l = up-grown a l
 way-grown Down a l = down-grown a l
+
+-- ---- a list of strokes, by whether there is a first one
+
+pub none-goes : (d : Direction) (l : List Summary) → length l ≡ 0 → false ≡ goes d l
+unfolding goes is_bis_up is_bis_down
+none-goes Up [] e = refl
+none-goes Down [] e = refl
+none-goes d (a ∷ l) e = let w : ⊥ = omega arith in absurd w
+
+folded : (r : GrowingRun) (l : List Summary) → fold more_of r l ≡ foldl more_of r l
+folded r [] = refl
+folded r (s ∷ l) = folded (more_of r s) l
+
+pub list-goes : (d : Direction) (l rest : List Summary) (a : Summary) (b w : GrowingRun) (r : Bool) → l ≡ a ∷ rest → b ≡ begun a → w ≡ fold more_of b rest → r ≡ goes_of d w → r ≡ goes d l
+unfolding run_of
+list-goes d l rest a b w r e p q h =
+    h ∙ ap (goes_of d) (q ∙ ap (λ (x : GrowingRun). fold more_of x rest) p ∙ folded (begun a) rest) ∙ way-grown d a rest ∙ ap (goes d) (sym e)

@@ -1,10 +1,9 @@
--- Runs of strokes that are walked stroke by stroke off the rows.
+-- Runs of strokes that are read stroke by stroke off the rows.
 -- Assumes nothing.
-use Prim.Native.Nat.{ℕ, ◌+◌, ◌-◌, ◌*◌, ◌/◌, ◌≤◌, ◌<◌}
+use Prim.Native.Nat.{ℕ, ◌+◌, ◌-◌, ◌*◌, ◌/◌, ◌<◌}
 use mathlib.Core.Path.{◌≡◌, ap, sym, ◌∙◌}
-use mathlib.Core.Bool.{Bool, false}
 use native.Mathlib.Numerals.{add-one}
-use mathlib.Core.List.{List, [], ◌∷◌, ◌++◌, foldl}
+use mathlib.Core.List.{List, [], ◌∷◌, ◌++◌}
 use lib.ListN.{length, take, get_or, set}
 use lib.Seq.{take-suc-set}
 use Rattle.strokes.specs.declared.Stand.{Stand}
@@ -14,16 +13,11 @@ use Rattle.strokes.specs.StateRead.{total}
 use Rattle.strokes.specs.Lent.{FractalStore}
 use Rattle.strokes.specs.FractalRows.{row_mark}
 use Rattle.zones.specs.declared.Summary.{Summary}
-use Rattle.zones.specs.declared.runs_of_strokes.GrowingRun.{GrowingRun}
-use Rattle.machine.specs.declared.Direction.{Direction}
-use Rattle.machine.specs.declared.Direction.TheVariants.{Up, Down}
-use Rattle.zones.specs.BisUpDown.{is_bis_up, is_bis_down, goes}
-use Rattle.zones.specs.Code.GrowingRun.{begun, more_of, run_of, goes_of}
-use Rattle.zones.specs.Code.StrokesRead.{stroke_place, fractal_number, stroke_end, summary_from, summary_at, items_from, read_run}
+use Rattle.zones.specs.declared.kept_run.Run.{Run}
+use Rattle.zones.specs.Code.Runs.{strokes_in, IsRun}
+use Rattle.zones.specs.Code.StrokesRead.{stroke_place, fractal_number, stroke_end, summary_from, summary_at, read_run}
 use Rattle.named.specs.Code.NamedRows.{mark_at, middle_at}
 use Rattle.zones.proofs.Items.{items_more}
-use Rattle.zones.proofs.RunFolds.{way-grown}
-use Rattle.zones.proofs.StrokesReadLaws.{run-first}
 
 -- a stroke that the code has read
 pub summary_done : (s : Stand) (f : FractalStore) (i place e : ℕ) (m : Mark) (a z : Candle) (r : Summary)
@@ -38,23 +32,10 @@ unfolding summary_at stroke_place fractal_number stroke_end mark_at
 summary_done s f i place e m a z r ep ee em ea ez er =
     er ∙ (λ j. summary_from (em j) (ea j) (ez j)) ∙ (λ j. summary_from (row_mark (get_or f.prices (ep j) [])) (middle_at f (ep j)) (middle_at f (ep j + ee j)))
 
-module _ (s : Stand) (f : FractalStore) (first count : ℕ) where
-  pub run-begins : (w : GrowingRun) (a : Summary) → a ≡ summary_at s f first → w ≡ begun a
-      → foldl more_of w (read_run s f (first + 1) (count - 1)) ≡ run_of (summary_at s f first) (read_run s f (first + 1) (count - 1))
-  unfolding run_of
-  run-begins w a e q = ap (λ (x : GrowingRun). foldl more_of x (read_run s f (first + 1) (count - 1))) (q ∙ ap begun e)
+-- ---- the strokes of a run that is named
 
-  pub read_none : count ≡ 0 → read_run s f first count ≡ []
-  unfolding read_run items_from
-  read_none e = ap (read_run s f first) e
-
-  pub none_goes : (d : Direction) → count ≡ 0 → false ≡ goes d (read_run s f first count)
-  unfolding goes is_bis_up is_bis_down
-  none_goes Up e = sym (ap is_bis_up (read_none e))
-  none_goes Down e = sym (ap is_bis_down (read_none e))
-
-  pub way_walked : (d : Direction) (w : GrowingRun) (r : Bool) → 1 ≤ count → w ≡ run_of (summary_at s f first) (read_run s f (first + 1) (count - 1)) → r ≡ goes_of d w → r ≡ goes d (read_run s f first count)
-  way_walked d w r h e q = q ∙ ap (goes_of d) e ∙ way-grown d (summary_at s f first) (read_run s f (first + 1) (count - 1)) ∙ sym (ap (goes d) (run-first s f first count h))
+pub run-is : {r : Run} {s : Stand} {f : FractalStore} {i n : ℕ} → IsRun r s f i n → strokes_in r ≡ read_run s f i n
+run-is h = λ j. read_run (h.stand j) (h.fractals j) (h.first j) (h.count j)
 
 -- ---- a run that is read into an array, stroke by stroke
 

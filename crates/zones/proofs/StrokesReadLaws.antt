@@ -4,7 +4,7 @@ use Prim.Native.Nat.{ℕ, zero, suc, ◌+◌, ◌-◌, ◌*◌, ◌/◌, ◌≤�
 use native.Mathlib.Omega.{arith}
 use mathlib.Core.Path.{◌≡◌, refl, ap, sym, ◌∙◌}
 use mathlib.Core.Bool.{◌&&◌}
-use mathlib.Core.List.{List, [], ◌∷◌, map, foldl}
+use mathlib.Core.List.{List, [], ◌∷◌, map}
 use mathlib.Core.Option.{none, some, some-injective}
 use lib.ListN.{length, take, drop, get_or, length-drop}
 use lib.Seq.{take-take, drop-cons, get_or-take, get_or-drop, length-take-le}
@@ -31,7 +31,6 @@ use Rattle.sound.proofs.SoundFacts.{Facts, facts}
 use Rattle.named.specs.ReportQuestions.{nth, run_of}
 use Rattle.named.specs.Code.NamedRows.{rows_of, stroke_in, mark_at, middle_at}
 use Rattle.named.proofs.StrokeAt.{stroke-at, every-nth, total_part, fewer-at, nth-at}
-use Rattle.zones.specs.declared.Summary.{Summary}
 use Rattle.zones.specs.Zones.{summary}
 use Rattle.zones.specs.Code.StrokesRead.{stroke_place, fractal_number, stroke_end, summary_from, summary_at, items_from, read_run, StrokeStands, RunStands}
 
@@ -157,33 +156,3 @@ module _ (s : Stand) (m : Stores) (lb : length s.bars ≡ 65) (lf : length s.fra
       let c : first < s.strokes = omega arith in
       (λ j. (sym (summary-is s m.fractals s.rooms.strokes first F.fractals (stroke-stands first c) (bars_at s m.strokes first)) ∙ ap summary (sym (state-at first z c))) j ∷ run_read (suc first) n (omega arith) j)
       ∙ ap (λ (x : List Stroke). map summary (take (suc n) x)) (sym (drop-cons l first z (omega arith)))
-
--- ---- walking a run
-
-module _ (s : Stand) (f : FractalStore) where
-  pub run-first : (first count : ℕ) → 1 ≤ count → read_run s f first count ≡ summary_at s f first ∷ read_run s f (first + 1) (count - 1)
-  unfolding read_run items_from
-  run-first first zero h = let w : ⊥ = omega arith in absurd w
-  run-first first (suc n) h =
-      let a : suc first ≡ first + 1 = omega arith in
-      let b : n ≡ suc n - 1 = omega arith in
-      λ j. summary_at s f first ∷ read_run s f (a j) (b j)
-
-  pub run_step : (first count j : ℕ) → j < count → read_run s f (first + j) (count - j) ≡ summary_at s f (first + j) ∷ read_run s f (first + (j + 1)) (count - (j + 1))
-  run_step first count j h =
-      let a : first + j + 1 ≡ first + (j + 1) = omega arith in
-      let b : count - j - 1 ≡ count - (j + 1) = omega arith in
-      run-first (first + j) (count - j) (omega arith) ∙ (λ i. summary_at s f (first + j) ∷ read_run s f (a i) (b i))
-
-  pub run_none : (first count j : ℕ) → count ≤ j → read_run s f (first + j) (count - j) ≡ []
-  unfolding read_run items_from
-  run_none first count j h = let a : count - j ≡ 0 = omega arith in ap (read_run s f (first + j)) a
-
-  module _ {S : Type 0} (g : S → Summary → S) where
-    pub run-turn : (first count j : ℕ) (w w' v : S) (b : Summary) → j < count → b ≡ summary_at s f (first + j) → w' ≡ g w b
-        → foldl g w (read_run s f (first + j) (count - j)) ≡ v → foldl g w' (read_run s f (first + (j + 1)) (count - (j + 1))) ≡ v
-    run-turn first count j w w' v b h e q k =
-        ap (λ (x : S). foldl g x (read_run s f (first + (j + 1)) (count - (j + 1)))) (q ∙ ap (g w) e) ∙ sym (ap (foldl g w) (run_step first count j h)) ∙ k
-
-    pub run_end : (first count j : ℕ) (w v : S) → count ≤ j → foldl g w (read_run s f (first + j) (count - j)) ≡ v → w ≡ v
-    run_end first count j w v h k = sym (ap (foldl g w) (run_none first count j h)) ∙ k

@@ -4,3 +4,4 @@ pub mod GrowingRun
 pub mod StrokesRead
 pub mod FakeSteps
 pub mod ZoneSteps
+pub mod Runs

@@ -6,14 +6,14 @@ ghost use Rattle.zones.specs.Code.FakeOfTwo.{fake_of_two, fake_count};
 use crate::FakeStroke;
 use check_bi::Candle;
 use machine::Mark;
-use strokes::direction_of;
+use strokes::{direction_of, end_index};
 
 // How many fake strokes a list of n fractals has: an odd list loses its last, then each neighbouring
 // pair.
 pub fn fake_count(n: usize) -> usize
     ensures { result ≡ fake_count n }
 {
-    (n / 2 * 2).saturating_sub(1)
+    end_index(n)
 }
 
 // The fake stroke from a fractal of this mark to the next; of each, the middle bar. Its power has `places` places.

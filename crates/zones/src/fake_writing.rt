@@ -6,12 +6,12 @@ ghost use Rattle.strokes.specs.Code.StrokeSteps.{RoomFractals};
 ghost use Rattle.zones.specs.Columns.{fakes_of, SameRows, RoomRows};
 ghost use Rattle.zones.specs.ListedFakes.{fakes_fit, fakes_if, fakes_call, counted, listed_fakes};
 ghost use Rattle.zones.specs.Code.FakeOfTwo.{fake_count};
-ghost use Rattle.zones.specs.Code.StrokesRead.{items_from, fractal_number, StrokeStands};
+ghost use Rattle.zones.specs.Code.StrokesRead.{items_from, StrokeStands};
 ghost use Rattle.zones.specs.FakeRows.{put_fakes};
 ghost use Rattle.zones.specs.Code.FakeSteps.{fake_at, read_fakes};
 
 use super::fake_strokes::{fake_count, fake_stroke};
-use super::named_runs::ask_run;
+use super::kept_run::Run;
 use crate::{FakeColumnsMut, FakeStroke};
 use bars::Question;
 use named::{mark_at, middle_at};
@@ -24,13 +24,14 @@ fn fake_at(places: usize, fractals: FractalColumns<'_>, p: usize) -> FakeStroke
 {
     fake_stroke(
         places,
-        mark_at(fractals.prices, p),
-        middle_at(fractals.stamps, fractals.prices, p),
-        middle_at(fractals.stamps, fractals.prices, p + 1),
+        mark_at(fractals, p),
+        middle_at(fractals, p),
+        middle_at(fractals, p + 1),
     )
 }
 
 // The n fake strokes from row p on.
+// Kept: by place, since each is read off two neighbouring rows of two columns: windows of both would have to be zipped, and rows be read one by one.
 fn write_fakes(
     places: usize,
     fractals: FractalColumns<'_>,
@@ -69,6 +70,7 @@ fn list_fakes(
     if !to.fits(n) {
         return Err(Question::OutputRoom);
     }
+    // Kept: `total_bars`, as in summary_at (reading).
     let place = total_bars(stand.bars, i);
     write_fakes(stand.power_places, fractals, place, n, to);
     Ok(n)
@@ -84,6 +86,6 @@ pub fn create_fake_bis(
     ensures listed { fakes_call (asked result) (counted result) (fakes_of to.new) ≡ listed_fakes stand (stores_in stores.entry) place (fakes_of to.old) }
     ensures same { SameRows to.old to.new }
 {
-    ask_run(stand, stores, place, 1)?;
+    Run::ask(stand, stores, place, 1)?;
     list_fakes(stand, stores.fractals, place, to)
 }

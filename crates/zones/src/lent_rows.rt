@@ -3,6 +3,8 @@ ghost use Rattle.std.specs.Prelude.{◌≡◌, ◌+◌, ◌&&◌, leb, length, s
 ghost use Rattle.zones.specs.Columns.{SameRows, RoomRows};
 
 // Rows of two times, P prices and what stands in a last column.
+// Kept: columns side by side, with numbers for a direction and a validity, since docs/DECISIONS.md (Zones) has the rows so, and the theorems that read them
+// back (zones-told, fakes-told: docs/STATEMENT.md) are of these columns.
 #[derive(Drop)]
 pub struct RowsMut<'a, const P: usize, K> {
     pub times: &'a mut [[i64; 2]],

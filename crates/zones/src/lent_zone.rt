@@ -6,9 +6,7 @@ ghost use Rattle.zones.specs.Code.ZoneSteps.{no_zone, next_of, states_of};
 use crate::{GrowingZone, Summary};
 use machine::Direction;
 
-// The zone under construction, how many strokes it has, and how many zones are done. Before the
-// first stroke there is no zone: the size is 0.
-// Kept: an Option in place of that size would be no plainer, since each step then asks that the size of a zone is not 0.
+// The zone under construction, how many strokes it has, and how many zones are done before it.
 #[derive(Clone, Copy)]
 pub struct Building {
     pub zone: GrowingZone,
@@ -22,36 +20,31 @@ pub fn no_stroke() -> Summary
 {
     Summary {
         direction: Direction::Up,
-        high: -1.0 / 0.0,
-        low: 1.0 / 0.0,
+        high: f64::NEG_INFINITY,
+        low: f64::INFINITY,
         began: 0,
         ended: 0,
     }
 }
 
 impl Building {
-    fn none() -> Self
-        ensures { result ≡ no_zone }
+    // The first zone of a run, with its first stroke.
+    fn start(s: Summary) -> Self
+        ensures { result ≡ next_of no_zone s }
     {
         Building {
-            zone: GrowingZone::start(no_stroke()),
-            size: 0,
+            zone: GrowingZone::start(s),
+            size: 1,
             done: 0,
         }
     }
 
-    // With one stroke more: it opens the first zone, opens the next, or joins.
+    // With one stroke more: it opens the next zone, or joins.
     fn next(self, s: Summary) -> Self
-        requires { self.size + self.done < 65536 }
+        requires some { 0 < self.size }
+        requires few { self.size + self.done < 65536 }
         ensures { result ≡ next_of self s }
     {
-        if self.size == 0 {
-            return Building {
-                zone: GrowingZone::start(s),
-                size: 1,
-                ..self
-            };
-        }
         if self.zone.opens(s) {
             return Building {
                 zone: GrowingZone::start(s),
@@ -65,27 +58,23 @@ impl Building {
             ..self
         }
     }
-
-    // The same in place.
-    fn step(&mut self, s: Summary)
-        requires { self.old.size + self.old.done < 65536 }
-        ensures { self.new ≡ next_of self.old s }
-    {
-        *self = self.next(s);
-    }
 }
 
 // For each stroke of the run the zone that it is in, as it stands with that stroke. So the last of
 // those that have the same number done before them is a zone of the run.
+// Kept: an array of as many as a run can have strokes, since there is no heap here. How many are in use the caller knows: as many as the run has.
 pub fn zones_of_run(run: &[Summary]) -> [Building; 64]
     requires { length run.now ≤ 64 }
     ensures { take (length run.now) result ≡ states_of no_zone run.now }
 {
-    let mut b = Building::none();
+    let Some((first, rest)) = run.split_first() else {
+        return [Building::start(no_stroke()); 64];
+    };
+    let mut b = Building::start(*first);
     let mut zones = [b; 64];
-    for (i, s) in run.iter().enumerate() {
-        b.step(*s);
-        zones[i] = b;
+    for (i, s) in rest.iter().enumerate() {
+        b = b.next(*s);
+        zones[i + 1] = b;
     }
     zones
 }

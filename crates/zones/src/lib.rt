@@ -3,6 +3,7 @@
 
 mod fake_strokes;
 mod fake_writing;
+mod kept_run;
 mod lent_rows;
 mod lent_zone;
 mod named_runs;
@@ -17,7 +18,7 @@ pub use lent_rows::{FakeColumnsMut, RowsMut, StrokeColumnsMut, ZoneColumnsMut};
 pub use lent_zone::{Building, no_stroke, zones_of_run};
 use machine::Direction;
 pub use named_runs::{is_bis_down, is_bis_up};
-pub use runs_of_strokes::{GrowingRun, StrokeCount};
+pub use runs_of_strokes::{GrowingRun, StrokeCount, goes};
 pub use zone_building::GrowingZone;
 pub use zone_writing::{ZoneCounts, get_zs_seq};
 

@@ -1,66 +1,42 @@
 // Runs of kept strokes, named by the first place and the length: is_bis_up and is_bis_down.
-ghost use Rattle.std.specs.Prelude.{◌≡◌, ◌+◌, ◌-◌, ◌≤◌, leb, length};
+ghost use Rattle.std.specs.Prelude.{◌≡◌, length, IfOk};
 ghost use Rattle.bars.specs.Refusals.{asked};
 ghost use Rattle.strokes.specs.Columns.{fractals_in, stores_in};
 ghost use Rattle.zones.specs.NamedRuns.{run_failed, run_answer, held_by, bis_up_answer, bis_down_answer, bis_answer};
-ghost use Rattle.zones.specs.BisUpDown.{goes};
-ghost use Rattle.zones.specs.Code.GrowingRun.{run_of};
-ghost use Rattle.zones.specs.Code.StrokesRead.{summary_at, read_run, RunStands};
+ghost use Rattle.zones.specs.Code.Runs.{IsRun};
 
-use super::reading::summary_at;
-use crate::GrowingRun;
+use super::kept_run::Run;
+use super::runs_of_strokes::goes;
 use bars::Question;
 use machine::Direction;
 use named::run_exists;
-use strokes::{FractalColumns, Stand, StoreColumns};
+use strokes::{Stand, StoreColumns};
 
-// The run's strokes, one after the other.
-fn grown_run(stand: Stand, fractals: FractalColumns<'_>, first: usize, count: usize) -> GrowingRun
-    requires fact_1 { 1 ≤ count }
-    requires fact_2 { RunStands stand (fractals_in fractals) first count }
-    ensures { result ≡ run_of (summary_at stand (fractals_in fractals.entry) first) (read_run stand (fractals_in fractals.entry) (first + 1) (count - 1)) }
-{
-    let mut run = GrowingRun::start(summary_at(stand, fractals, first));
-    for j in 1..count {
-        run = run.more(summary_at(stand, fractals, first + j));
+impl<'a> Run<'a> {
+    // Questions 4 and 13, and then the run that is named. The contract adds the lengths of the stand's lists of counts.
+    // Kept: the lengths as a clause, as in run_exists (named), which tells them: create_fake_bis reads the two lists by place.
+    pub fn ask(
+        stand: Stand,
+        stores: StoreColumns<'a>,
+        first: usize,
+        count: usize,
+    ) -> Result<Self, Question>
+        ensures failed { asked result ≡ run_failed stand (stores_in stores.entry) first count }
+        ensures run { IfOk result (λ run. IsRun run stand (fractals_in stores.entry.fractals) first count) }
+        ensures counts { (length stand.bars ≡ 65) × (length stand.fractals ≡ 65) }
+    {
+        let exists = run_exists(stand, first, count);
+        question4::ask(stand, stores)?;
+        if !exists {
+            return Err(Question::Exists);
+        }
+        Ok(Run {
+            stand,
+            fractals: stores.fractals,
+            first,
+            count,
+        })
     }
-    run
-}
-
-fn run_goes(
-    stand: Stand,
-    fractals: FractalColumns<'_>,
-    first: usize,
-    count: usize,
-    way: Direction,
-) -> bool
-    requires { RunStands stand (fractals_in fractals) first count }
-    ensures { result ≡ goes way (read_run stand (fractals_in fractals.entry) first count) }
-{
-    if count == 0 {
-        return false;
-    }
-    grown_run(stand, fractals, first, count).goes(way)
-}
-
-// Questions 4 and 13 of a run. The contract adds the lengths of the stand's lists of counts.
-pub fn ask_run(
-    stand: Stand,
-    stores: StoreColumns<'_>,
-    first: usize,
-    count: usize,
-) -> Result<(), Question>
-    ensures failed { asked result ≡ run_failed stand (stores_in stores.entry) first count }
-    ensures counts { (length stand.bars ≡ 65) × (length stand.fractals ≡ 65) }
-{
-    let exists = run_exists(stand, first, count);
-    if !question4::is_sound(stand, stores) {
-        return Err(Question::Sound);
-    }
-    if !exists {
-        return Err(Question::Exists);
-    }
-    Ok(())
 }
 
 // is_bis_up or is_bis_down of a run of kept strokes, by the way that is asked.
@@ -73,8 +49,8 @@ fn is_bis(
 ) -> Result<bool, Question>
     ensures { run_answer (asked result) (held_by result) ≡ bis_answer way stand (stores_in stores.entry) first count }
 {
-    ask_run(stand, stores, first, count)?;
-    Ok(run_goes(stand, stores.fractals, first, count, way))
+    let run = Run::ask(stand, stores, first, count)?;
+    Ok(goes(way, &run.strokes()[..run.count]))
 }
 
 // is_bis_up of a run of kept strokes.

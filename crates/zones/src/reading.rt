@@ -1,8 +1,10 @@
-// Kept strokes, read by place off the rows of the fractal store.
-ghost use Rattle.std.specs.Prelude.{◌≡◌, [], ◌+◌, ◌-◌, ◌*◌, ◌/◌, ◌<◌, length, take, get_or};
+// Kept strokes and runs of them, read by place off the rows of the fractal store.
+ghost use Rattle.std.specs.Prelude.{◌≡◌, take};
 ghost use Rattle.strokes.specs.Columns.{fractals_in};
-ghost use Rattle.zones.specs.Code.StrokesRead.{summary_from, summary_at, read_run, StrokeStands, RunStands};
+ghost use Rattle.zones.specs.Code.StrokesRead.{summary_from, summary_at, StrokeStands};
+ghost use Rattle.zones.specs.Code.Runs.{strokes_in};
 
+use super::kept_run::Run;
 use super::lent_zone::no_stroke;
 use crate::Summary;
 use check_bi::Candle;
@@ -24,6 +26,7 @@ fn summary_from(mark: Mark, a: Candle, z: Candle) -> Summary
 }
 
 // The kept stroke at place i.
+// Kept: `total_bars` of the stand's counts: a method of Stand for it would be this one call again.
 pub fn summary_at(stand: Stand, fractals: FractalColumns<'_>, i: usize) -> Summary
     requires { StrokeStands stand (fractals_in fractals) i }
     ensures { result ≡ summary_at stand (fractals_in fractals.entry) i }
@@ -31,25 +34,23 @@ pub fn summary_at(stand: Stand, fractals: FractalColumns<'_>, i: usize) -> Summa
     let place = total_bars(stand.bars, i);
     let end = place + end_index(stand.fractals[i] as usize);
     summary_from(
-        mark_at(fractals.prices, place),
-        middle_at(fractals.stamps, fractals.prices, place),
-        middle_at(fractals.stamps, fractals.prices, end),
+        mark_at(fractals, place),
+        middle_at(fractals, place),
+        middle_at(fractals, end),
     )
 }
 
-// The kept strokes of a run, in order from place 0 on.
-pub fn read_run(
-    stand: Stand,
-    fractals: FractalColumns<'_>,
-    first: usize,
-    count: usize,
-) -> [Summary; 64]
-    requires { RunStands stand (fractals_in fractals) first count }
-    ensures { take count result ≡ read_run stand (fractals_in fractals.entry) first count }
-{
-    let mut run = [no_stroke(); 64];
-    for j in 0..count {
-        run[j] = summary_at(stand, fractals, first + j);
+impl<'a> Run<'a> {
+    // Its strokes, in order from place 0 on.
+    // Kept: an array of as many as a run can have, of which the first `count` are its strokes, since there is no heap here, and the run has the count already.
+    // Kept: filled by place, since place j has the kept stroke at `first` + j.
+    pub fn strokes(self) -> [Summary; 64]
+        ensures { take self.entry.count result ≡ strokes_in self.entry }
+    {
+        let mut strokes = [no_stroke(); 64];
+        for j in 0..self.count {
+            strokes[j] = summary_at(self.stand, self.fractals, self.first + j);
+        }
+        strokes
     }
-    run
 }

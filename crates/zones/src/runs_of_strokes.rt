@@ -1,6 +1,7 @@
-// is_bis_up and is_bis_down of the source, by value: what they read of a run of strokes, kept up
-// stroke by stroke. Of no stroke both are false.
+// is_bis_up and is_bis_down of the source: what they read of a run of strokes, kept up stroke by stroke. Of no
+// stroke both are false.
 ghost use Rattle.std.specs.Prelude.{◌≡◌};
+ghost use Rattle.zones.specs.BisUpDown.{goes};
 ghost use Rattle.zones.specs.Code.GrowingRun.{begun, in_order_with, longer, more_of, is_run_of, up_of, down_of, spans_of, spans_way, goes_of};
 
 use crate::Summary;
@@ -27,6 +28,8 @@ impl StrokeCount {
 }
 
 // `in_order` is whether the end times rise strictly.
+// Kept: a flag, since it is the answer to one of the tests on a run, and no value stands beside it that an Option could hold.
+// Kept: gg and dd one by one and no value of the two, as the definitions name them (specs/Code/GrowingRun).
 #[derive(Clone, Copy)]
 pub struct GrowingRun {
     pub first: Summary,
@@ -47,8 +50,8 @@ impl GrowingRun {
             last: s,
             count: StrokeCount::One,
             in_order: true,
-            gg: arith::max(-1.0 / 0.0, s.high),
-            dd: arith::min(1.0 / 0.0, s.low),
+            gg: arith::max(f64::NEG_INFINITY, s.high),
+            dd: arith::min(f64::INFINITY, s.low),
         }
     }
 
@@ -64,12 +67,12 @@ impl GrowingRun {
         ensures { result ≡ more_of self s }
     {
         GrowingRun {
-            first: self.first,
             last: s,
             count: self.count.longer(),
             in_order: self.in_order_with(s),
             gg: arith::max(self.gg, s.high),
             dd: arith::min(self.dd, s.low),
+            ..self
         }
     }
 
@@ -81,6 +84,7 @@ impl GrowingRun {
     }
 
     // Whether `top` has the greatest high of all strokes, and `bottom` the least low.
+    #[tactic(auto, unfolding(crate::specs::Code::GrowingRun::spans_of))]
     fn spans(self, top: Summary, bottom: Summary) -> bool
         ensures { result ≡ spans_of self top bottom }
     {
@@ -88,6 +92,7 @@ impl GrowingRun {
     }
 
     // Whether the run spans all strokes from its first to its last, this way.
+    #[tactic(auto, unfolding(crate::specs::Code::GrowingRun::spans_way))]
     fn spans_way(self, way: Direction) -> bool
         ensures { result ≡ spans_way way self }
     {
@@ -98,6 +103,7 @@ impl GrowingRun {
     }
 
     // Whether the run goes this way as a whole.
+    // Kept: is_run is asked first and by itself. Tried as one expression of the three tests: its branches join, and the proof did not close.
     pub fn goes(self, way: Direction) -> bool
         ensures { result ≡ goes_of way self }
     {
@@ -117,5 +123,19 @@ impl GrowingRun {
         ensures { result ≡ down_of self }
     {
         self.goes(Direction::Down)
+    }
+}
+
+// Whether strokes go this way as a whole, one after the other: is_bis_up or is_bis_down.
+// Kept: a match of both arms, since `is_some_and` would put the closure of `fold` into another, around a pair.
+pub fn goes(way: Direction, strokes: &[Summary]) -> bool
+    ensures { result ≡ goes way strokes.now }
+{
+    match strokes.split_first() {
+        None => false,
+        Some((first, rest)) => rest
+            .iter()
+            .fold(GrowingRun::start(*first), |run, s| run.more(*s))
+            .goes(way),
     }
 }

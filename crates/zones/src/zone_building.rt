@@ -9,6 +9,9 @@ use machine::Direction;
 
 // zg and zd are of the first three strokes, so they stand still after the third; is_valid asks all strokes against them. So the first three are kept, and each
 // later one is asked as it joins: `later` is whether all of those met the range.
+// Kept: two Options for the second and the third. With an enum of one, two or three strokes the test of each (first_meet) would be written out six times.
+// Kept: the edges one by one and not as pairs of a type of their own, as the definitions name them (specs/Code/GrowingZone).
+// Kept: `later` is a flag, since it is the answer to one of is_valid's tests, and no value stands beside it that an Option could hold.
 #[derive(Clone, Copy)]
 pub struct GrowingZone {
     pub first: Summary,
@@ -23,6 +26,8 @@ pub struct GrowingZone {
 }
 
 // From d to g, both counted.
+// Kept: spelled out as the definition has it, the upper edge first; `contains` of a range says no more and asks the lower one first.
+#[tactic(auto, unfolding(crate::specs::Zones::within))]
 fn within(g: f64, d: f64, x: f64) -> bool
     ensures { result ≡ within g d x }
 {
@@ -30,13 +35,11 @@ fn within(g: f64, d: f64, x: f64) -> bool
 }
 
 // The stroke has an edge from zd to zg, or spans both.
+#[tactic(auto, unfolding(crate::specs::Zones::meets_range))]
 fn meets_range(g: f64, d: f64, s: Summary) -> bool
     ensures { result ≡ meets_range g d s }
 {
-    if within(g, d, s.high) || within(g, d, s.low) {
-        return true;
-    }
-    g <= s.high && s.low <= d
+    within(g, d, s.high) || within(g, d, s.low) || g <= s.high && s.low <= d
 }
 
 impl GrowingZone {
@@ -44,8 +47,8 @@ impl GrowingZone {
     pub fn start(s: Summary) -> Self
         ensures { result ≡ started s }
     {
-        let top = 1.0 / 0.0;
-        let bottom = -1.0 / 0.0;
+        let top = f64::INFINITY;
+        let bottom = f64::NEG_INFINITY;
         GrowingZone {
             first: s,
             second: None,
@@ -107,6 +110,7 @@ impl GrowingZone {
     }
 
     // Whether the stroke opens a new zone: it goes up and stays below zd, or down and above zg.
+    #[tactic(auto, unfolding(crate::specs::Code::GrowingZone::opens_of, crate::specs::Code::GrowingZone::outside_of))]
     pub fn opens(self, s: Summary) -> bool
         ensures { result ≡ opens_of self s }
     {
@@ -123,31 +127,27 @@ impl GrowingZone {
     }
 
     // A stroke that is not there is not asked.
+    #[tactic(auto, unfolding(crate::specs::Code::GrowingZone::meets_if))]
     fn meets(self, s: Option<Summary>) -> bool
         ensures { result ≡ meets_if self.zg self.zd s }
     {
-        match s {
-            None => true,
-            Some(s) => meets_range(self.zg, self.zd, s),
-        }
+        s.is_none_or(|s| meets_range(self.zg, self.zd, s))
     }
 
+    #[tactic(auto, unfolding(crate::specs::Code::GrowingZone::first_meet))]
     fn first_meet(self) -> bool
         ensures { result ≡ first_meet self }
     {
-        if !meets_range(self.zg, self.zd, self.first) {
-            return false;
-        }
-        self.meets(self.second) && self.meets(self.third)
+        meets_range(self.zg, self.zd, self.first)
+            && self.meets(self.second)
+            && self.meets(self.third)
     }
 
     // is_valid of the source.
+    #[tactic(auto, unfolding(crate::specs::Code::GrowingZone::valid_of))]
     pub fn is_valid(self) -> bool
         ensures { result ≡ valid_of self }
     {
-        if self.zg < self.zd {
-            return false;
-        }
-        self.first_meet() && self.later
+        !(self.zg < self.zd) && self.first_meet() && self.later
     }
 }

@@ -3,19 +3,17 @@
 ghost use Rattle.std.specs.Prelude.{◌≡◌, ◌+◌, ◌≤◌, length, set};
 ghost use mathlib.Core.List.{foldl};
 ghost use Rattle.bars.specs.Refusals.{asked};
-ghost use Rattle.strokes.specs.Columns.{fractals_in, stores_in};
+ghost use Rattle.strokes.specs.Columns.{stores_in};
 ghost use Rattle.zones.specs.Columns.{strokes_of, zones_of, SameRows, RoomRows};
 ghost use Rattle.zones.specs.ListedZones.{zones_call, zones_told, strokes_told, listed_zones};
-ghost use Rattle.zones.specs.Code.StrokesRead.{read_run, RunStands};
 ghost use Rattle.zones.specs.ZoneRows.{stroke_times, stroke_prices, stroke_code, put_strokes};
-ghost use Rattle.zones.specs.Code.ZoneSteps.{zone_count, set_zone, states_of, no_zone, FewZones, RoomBuilt, zones_read_if};
+ghost use Rattle.zones.specs.Code.ZoneSteps.{zone_count, set_zone, FewZones, RoomBuilt, zones_read_if};
 
+use super::kept_run::Run;
 use super::lent_zone::zones_of_run;
-use super::named_runs::ask_run;
-use super::reading::read_run;
 use crate::{Building, StrokeColumnsMut, Summary, ZoneColumnsMut};
 use bars::Question;
-use strokes::{FractalColumns, Stand, StoreColumns};
+use strokes::{Stand, StoreColumns};
 
 // How many zones are listed, and how many strokes.
 #[derive(Clone, Copy, Debug, PartialEq, Eq)]
@@ -25,6 +23,7 @@ pub struct ZoneCounts {
 }
 
 // How many zones there are, of the zone that each of the run's strokes is in.
+// Kept: a match. Tried with `map_or`: of the number that its closure gives only a post-condition is known, and the proof did not close.
 fn zone_count(built: &[Building]) -> usize
     requires { FewZones built.now (length built.now) }
     ensures { result ≡ zone_count built.now (length built.now) }
@@ -114,24 +113,6 @@ fn write_run(
     Ok(counts)
 }
 
-// The zones and the strokes of a run that exists.
-fn list_zones(
-    stand: Stand,
-    fractals: FractalColumns<'_>,
-    first: usize,
-    count: usize,
-    zones: &mut ZoneColumnsMut<'_>,
-    strokes: &mut StrokeColumnsMut<'_>,
-) -> Result<ZoneCounts, Question>
-    requires { RunStands stand (fractals_in fractals) first count }
-    ensures listed { zones_call (asked result) (zones_told result) (strokes_told result) (zones_of zones.new) (strokes_of strokes.new) ≡ zones_read_if (zones_of zones.old) (strokes_of strokes.old) (read_run stand (fractals_in fractals.entry) first count) }
-    ensures same_zones { SameRows zones.old zones.new }
-    ensures same_strokes { SameRows strokes.old strokes.new }
-{
-    let run = read_run(stand, fractals, first, count);
-    write_run(&run[..count], zones, strokes)
-}
-
 // get_zs_seq of a run of kept strokes.
 pub fn get_zs_seq(
     stand: Stand,
@@ -145,6 +126,6 @@ pub fn get_zs_seq(
     ensures same_zones { SameRows zones.old zones.new }
     ensures same_strokes { SameRows strokes.old strokes.new }
 {
-    ask_run(stand, stores, first, count)?;
-    list_zones(stand, stores.fractals, first, count, zones, strokes)
+    let run = Run::ask(stand, stores, first, count)?;
+    write_run(&run.strokes()[..run.count], zones, strokes)
 }

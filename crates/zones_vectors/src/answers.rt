@@ -1,20 +1,13 @@
 // A line's question and its answer.
 ghost use Rattle.std.specs.Prelude.{◌≤◌, length, IfOk, vec_len};
 
-use crate::items::{read_fractal, read_stroke};
-use lines::{Output, Spaced, Unanswered, Words, words_behind};
+use crate::items::Fields;
+use lines::{Output, Spaced, Unanswered, words_behind};
 use machine::Direction;
 use std::alloc::Global;
 use std::fmt;
 use std::io::{self, Write};
-use zones::{Building, FakeStroke, GrowingRun, Summary, fake_count, fake_stroke, zones_of_run};
-
-fn direction_word(d: Direction) -> &'static str {
-    match d {
-        Direction::Up => "up",
-        Direction::Down => "down",
-    }
-}
+use zones::{Building, FakeStroke, Summary, fake_count, fake_stroke, goes, zones_of_run};
 
 // A zone as it is written: `SDT EDT SDIR EDIR ZG ZD ZZ GG DD VALID N`.
 #[derive(Clone, Copy)]
@@ -24,10 +17,8 @@ impl fmt::Display for ZoneText {
     fn fmt<W: fmt::Write>(&self, f: &mut fmt::Formatter<W>) -> fmt::Result {
         let zone = self.0.zone;
         let (first, last) = (zone.first, zone.last);
-        write!(f, "{} {} ", first.began, last.ended)?;
-        f.write_str(direction_word(first.direction))?;
-        f.write_str(" ")?;
-        f.write_str(direction_word(last.direction))?;
+        write!(f, "{} {}", first.began, last.ended)?;
+        write!(f, " {} {}", first.direction, last.direction)?;
         let edges = [zone.zg, zone.zd, zone.zz(), zone.gg, zone.dd];
         write!(
             f,
@@ -46,25 +37,38 @@ struct FakeText(FakeStroke);
 impl fmt::Display for FakeText {
     fn fmt<W: fmt::Write>(&self, f: &mut fmt::Formatter<W>) -> fmt::Result {
         let fake = self.0;
-        f.write_str(direction_word(fake.direction))?;
         let floats = [fake.high, fake.low, fake.power];
-        write!(f, " {} {}{}", fake.sdt, fake.edt, Spaced(&floats))
+        write!(
+            f,
+            "{} {} {}{}",
+            fake.direction,
+            fake.sdt,
+            fake.edt,
+            Spaced(&floats)
+        )
     }
 }
 
-// The strokes behind a line's name, at most 64.
-fn strokes_of(alloc: Global, line: &str, words: &mut Words<'_>) -> Result<Vec<Summary>, Unanswered>
+// The most strokes of a line.
+const MOST: usize = 64;
+
+// The strokes behind a line's name.
+// Kept: beside prices_of of bars_vectors, which counts its words first: here fields are read until no byte is left.
+fn strokes_of(alloc: Global, mut fields: Fields<'_>) -> Result<Vec<Summary>, Unanswered>
     ensures { IfOk result (λ strokes. vec_len strokes ≤ 64) }
 {
-    let behind = words_behind(line);
-    if behind % 5 != 0 || 64 < behind / 5 {
-        return Err(Unanswered::BadLine);
-    }
     let mut strokes = Vec::new(alloc);
-    for _ in 0..behind / 5 {
-        strokes.push(read_stroke(words).ok_or(Unanswered::BadLine)?)?;
+    for _ in 0..MOST {
+        if fields.is_empty() {
+            break;
+        }
+        strokes.push(fields.stroke().ok_or(Unanswered::BadLine)?)?;
     }
-    Ok(strokes)
+    if fields.is_empty() {
+        Ok(strokes)
+    } else {
+        Err(Unanswered::BadLine)
+    }
 }
 
 // The zones of a run, of the zone that each of its strokes is in.
@@ -87,49 +91,39 @@ fn zones_of(out: &mut Output, strokes: &[Summary]) -> io::Result<()>
 
 // is_bis_up and is_bis_down of a run.
 fn bis_of(out: &mut Output, strokes: &[Summary]) -> io::Result<()> {
-    let Some((first, rest)) = strokes.split_first() else {
-        return writeln!(out, "0 0");
-    };
-    let mut run = GrowingRun::start(*first);
-    for stroke in rest {
-        run = run.more(*stroke);
-    }
-    writeln!(
-        out,
-        "{} {}",
-        u8::from(run.is_bis_up()),
-        u8::from(run.is_bis_down())
-    )
+    let [up, down] = [Direction::Up, Direction::Down].map(|way| u8::from(goes(way, strokes)));
+    writeln!(out, "{up} {down}")
 }
 
 // The fake strokes of the fractals behind a line's name, each of four words.
-fn fakes_of(out: &mut Output, line: &str, words: &mut Words<'_>) -> Result<(), Unanswered> {
-    let count = fake_count(words_behind(line) / 4);
+fn fakes_of(out: &mut Output, mut fields: Fields<'_>) -> Result<(), Unanswered> {
+    let count = fake_count(words_behind(fields.0) / 4);
     if count == 0 {
         writeln!(out, "empty")?;
         return Ok(());
     }
-    let mut last = read_fractal(words).ok_or(Unanswered::BadLine)?;
+    let (mut mark, mut last) = fields.fractal().ok_or(Unanswered::BadLine)?;
     for i in 0..count {
-        let next = read_fractal(words).ok_or(Unanswered::BadLine)?;
+        let (next_mark, next) = fields.fractal().ok_or(Unanswered::BadLine)?;
         if 0 < i {
             write!(out, " | ")?;
         }
-        let fake = fake_stroke(2, last.mark, last.candle, next.candle);
-        write!(out, "{}", FakeText(fake))?;
-        last = next;
+        write!(out, "{}", FakeText(fake_stroke(2, mark, last, next)))?;
+        (mark, last) = (next_mark, next);
     }
     writeln!(out)?;
     Ok(())
 }
 
 // Writes the answer to a line.
-pub fn answer(out: &mut Output, alloc: Global, line: &str) -> Result<(), Unanswered> {
-    let mut words = line.split(' ');
-    match words.next() {
-        Some("zones") => zones_of(out, &strokes_of(alloc, line, &mut words)?)?,
-        Some("bis") => bis_of(out, &strokes_of(alloc, line, &mut words)?)?,
-        Some("fake") => fakes_of(out, line, &mut words)?,
+pub fn answer(out: &mut Output, alloc: Global, line: &[u8]) -> Result<(), Unanswered> {
+    let end = line.iter().position(|b| *b == b' ').unwrap_or(line.len());
+    let (name, rest) = line.split_at(end);
+    let fields = Fields(rest);
+    match name {
+        b"zones" => zones_of(out, &strokes_of(alloc, fields)?)?,
+        b"bis" => bis_of(out, &strokes_of(alloc, fields)?)?,
+        b"fake" => fakes_of(out, fields)?,
         _ => return Err(Unanswered::BadLine),
     }
     Ok(())

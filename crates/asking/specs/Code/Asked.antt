@@ -1,11 +1,13 @@
 -- What the asking of a feed gives, of the settings, the state and the bar alone: the first of questions 5 to 12 that fails, and what the feed would do.
 -- Definitions only.
-use Rattle.std.specs.Prelude.{map, ◌≡◌, length, ℤ, pos}
+use Rattle.std.specs.Prelude.{map, ◌≡◌, length, ℤ, pos, IfOk, Result}
 use Rattle.std.specs.Prelude.{Some, None}
 use Rattle.std.specs.declared.option.Option as Std
 use Rattle.std.proofs.Math.Option.{Option, none, some}
 use Rattle.bars.specs.declared.Bar.{Bar}
+use Rattle.bars.specs.declared.refusals.Question.{Question}
 use Rattle.bars.specs.Bars.{Merged}
+use Rattle.bars.specs.Refusals.{asked}
 use Rattle.bars.specs.Lists.{last, init}
 use Rattle.machine.specs.Strokes.{Stroke}
 use Rattle.machine.specs.Break.{high_of, low_of}
@@ -35,8 +37,8 @@ unfoldable pub plan_for : Settings → State → Bar → Plan
 unfolding plan_of last_of last candle_of merged
 plan_for c s b = plan_of c.minimum (last_of (last s.strokes)) (map candle_of (merged s b))
 
--- what the asking answers: the number of the first "no", and where there is none, whether b is later than the newest raw bar, and the plan
-pub record AskedOf (c : Settings) (s : State) (b : Bar) (r : Asked) : Type 0 where
-  pub failed : r.failed ≡ failed_after4 c s b
-  pub later : r.failed ≡ 0 → r.later ≡ is_later (last s.raw) b
-  pub plan : r.failed ≡ 0 → r.plan ≡ plan_for c s b
+-- what the asking answers: refused by the number of the first "no", and where there is none, whether b is later than the newest raw bar, and the plan
+pub record AskedOf (c : Settings) (s : State) (b : Bar) (r : Result Asked Question) : Type 0 where
+  pub failed : asked r ≡ failed_after4 c s b
+  pub later : IfOk r (λ a. a.later ≡ is_later (last s.raw) b)
+  pub plan : IfOk r (λ a. a.plan ≡ plan_for c s b)

@@ -61,6 +61,16 @@ unfolding top_of bottom_of
 other_of D a b c = top_of a b c
 other_of G a b c = bottom_of a b c
 
+-- the mark of the fractal that they form, if they form one: by whether it is a top, and whether it is a bottom
+unfoldable pub mark_by : Bool → Bool → Option Mark
+mark_by true u = Some G
+mark_by false true = Some D
+mark_by false false = None
+
+unfoldable pub mark_of : Candle → Candle → Candle → Option Mark
+unfolding mark_by top_of bottom_of
+mark_of a b c = mark_by (top_of a b c) (bottom_of a b c)
+
 -- whether a scan takes it: any fractal if it has taken none, or else one of the other mark than the last one's
 unfoldable pub taken_of : Option Mark → Candle → Candle → Candle → Bool
 unfolding fractal_of other_of

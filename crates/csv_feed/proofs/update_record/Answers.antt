@@ -1,6 +1,7 @@
-use mathlib.Core.Path.{◌∙◌}
+use mathlib.Core.Path.{ap, sym, ◌∙◌}
 use Rattle.std.proofs.lemmas.Result.{err_from_is_err_and}
-use Rattle.feed.proofs.FeedLaws.{sound_seen}
+use Rattle.question4.specs.Question4.{question4}
+use Rattle.question4.proofs.Question4Passed.{ask_handed, ask_passed}
 use Rattle.feed.proofs.PortDemand3.{port_demand3}
 use Rattle.csv_feed.proofs.RecordAnswers.{record-fed, feed-refused, record-refused, not-sound, records_feed}
 use Rattle.csv_feed.proofs.update_record.Goals as goal
@@ -23,22 +24,23 @@ returns-in_ok-events-in-Ok-clause-feeds c = records_feed
 
 -- ---- no bar is read
 
-pub returns-then-is_sound-clause-fed : goal.returns-then-is_sound-clause-fed
-returns-then-is_sound-clause-fed c =
-    record-refused _ _ _ c.in-Err.unread c.in-Err.ensures.0 (sound_seen c.seen-r.ensures c.seen-u.ensures c.seen-k.ensures c.seen-f.ensures _ _ c.is_sound.ensures ∙ c.if-is_sound.true)
+pub returns-in_err-ask-in-Err-clause-fed : goal.returns-in_err-ask-in-Err-clause-fed
+returns-in_err-ask-in-Err-clause-fed c =
+    let h = ask_handed _ _ c.from_residual-in_err-ask-in-Err.result c.from_residual-in_err-ask-in-Err.ensures.1 c.in_err-ask-in-Err.ensures in
+    rw h.1 (not-sound _ _ _ c.in-Err.unread c.in-Err.ensures.0 (sym (ap (question4 c.args.czsc.now.stand) c.of-stores.ensures) ∙ h.0))
 
-pub returns-then-is_sound-clause-feeds : goal.returns-then-is_sound-clause-feeds
-returns-then-is_sound-clause-feeds c = records_feed
+pub returns-in_err-ask-in-Err-clause-feeds : goal.returns-in_err-ask-in-Err-clause-feeds
+returns-in_err-ask-in-Err-clause-feeds c = records_feed
 
-pub returns-then-is_sound-clause-demand3 : goal.returns-then-is_sound-clause-demand3
-returns-then-is_sound-clause-demand3 c = port_demand3
+pub returns-in_err-ask-in-Err-clause-demand3 : goal.returns-in_err-ask-in-Err-clause-demand3
+returns-in_err-ask-in-Err-clause-demand3 c = port_demand3
 
-pub returns-else-is_sound-clause-fed : goal.returns-else-is_sound-clause-fed
-returns-else-is_sound-clause-fed c =
-    not-sound _ _ _ c.in-Err.unread c.in-Err.ensures.0 (sound_seen c.seen-r.ensures c.seen-u.ensures c.seen-k.ensures c.seen-f.ensures _ _ c.is_sound.ensures ∙ c.if-is_sound.false)
+pub returns-in_ok-ask-in-Err-clause-fed : goal.returns-in_ok-ask-in-Err-clause-fed
+returns-in_ok-ask-in-Err-clause-fed c =
+    record-refused _ _ _ c.in-Err.unread c.in-Err.ensures.0 (sym (ap (question4 c.args.czsc.now.stand) c.of-stores.ensures) ∙ ask_passed _ _ c.in_ok-ask-in-Err.ensures)
 
-pub returns-else-is_sound-clause-feeds : goal.returns-else-is_sound-clause-feeds
-returns-else-is_sound-clause-feeds c = records_feed
+pub returns-in_ok-ask-in-Err-clause-feeds : goal.returns-in_ok-ask-in-Err-clause-feeds
+returns-in_ok-ask-in-Err-clause-feeds c = records_feed
 
-pub returns-else-is_sound-clause-demand3 : goal.returns-else-is_sound-clause-demand3
-returns-else-is_sound-clause-demand3 c = port_demand3
+pub returns-in_ok-ask-in-Err-clause-demand3 : goal.returns-in_ok-ask-in-Err-clause-demand3
+returns-in_ok-ask-in-Err-clause-demand3 c = port_demand3

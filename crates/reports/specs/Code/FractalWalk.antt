@@ -8,7 +8,7 @@ use Rattle.stores.specs.Stores.{RawStore, raw_bars}
 use Rattle.stores.specs.Columns.{raw_in}
 use Rattle.machine.specs.declared.Mark.{Mark}
 use Rattle.machine.specs.Fractals.{Fractal, fxs_after}
-use Rattle.strokes.specs.Code.StrokeSteps.{plain_bar}
+use Rattle.strokes.specs.Code.StrokeSteps.{plain_bar, last_mark}
 use Rattle.reports.specs.declared.fractal_walk.FractalBars.{FractalBars}
 use Rattle.reports.specs.declared.fractal_walk.PlacedFractal.{PlacedFractal}
 use Rattle.reports.specs.declared.fractal_walk.FractalWalk.{FractalWalk}
@@ -26,25 +26,14 @@ unfolding plain_bar
 fractal_if None a b c = none
 fractal_if (Some m) a b c = some (plain_of m a b c)
 
--- the mark of the last one taken, if one was
-unfoldable pub mark_of : Std.Option Mark → Option Mark
-mark_of None = none
-mark_of (Some m) = some m
-
 -- the fractals of the first `end` bars from place i on, behind one of mark p
 unfoldable pub from_place : RawStore → ℕ → Option Mark → ℕ → List Fractal
 unfolding fxs_after raw_bars plain_bar
 from_place s end p i = fxs_after p (drop i (take end (map plain_bar (raw_bars s))))
 
 unfoldable pub left : FractalWalk → List Fractal
-unfolding from_place mark_of
-left w = from_place (raw_in w.bars) w.end (mark_of w.last) w.next
-
--- of the fractals l one is handed out, if there is one, and m are left
-unfoldable pub HandsOut : List Fractal → Std.Option FractalBars → List Fractal → Type 0
-unfolding plain_bar
-HandsOut l None m = l ≡ []
-HandsOut l (Some f) m = l ≡ plain f ∷ m
+unfolding from_place last_mark
+left w = from_place (raw_in w.bars) w.end (last_mark w.last) w.next
 
 -- what the window of three bars adds to the fractals of those behind them
 unfoldable pub window_gives : Option Mark → Std.Option FractalBars → (Option Mark → List Fractal) → List Fractal

@@ -1,5 +1,5 @@
 -- Reading, writing, copying and searching rows of the stores. Definitions only.
-use Rattle.std.specs.Prelude.{ℕ, suc, ◌≤◌, Bool, true, false, ◌&&◌, List, [], ◌∷◌, ◌≡◌, length, take, get_or, set, ℤ, pos}
+use Rattle.std.specs.Prelude.{ℕ, suc, ◌-◌, ◌≤◌, Bool, true, false, ◌&&◌, List, [], ◌∷◌, ◌≡◌, length, take, get_or, set, ℤ, pos}
 use Rattle.std.specs.Int.Signed.{lt_z}
 use Rattle.bars.specs.declared.Bar.{Bar}
 use Rattle.bars.specs.declared.NewBar.{NewBar}
@@ -66,6 +66,11 @@ pub record RowsCopied (cs : List ℕ) (es : List (List ℤ)) (at : ℕ) (ds : Li
   pub counts : cs' ≡ copied cs at ds from n
   pub elements : in_use cs' es' ≡ copied (in_use cs es) at (in_use ds fs) from n
   pub places : length es' ≡ length es
+
+-- of n rows that are moved within a column, which is the k-th: counted from the first row where they go down, from the last where they go up
+unfoldable pub row_in_turn : Bool → ℕ → ℕ → ℕ
+row_in_turn true n k = k
+row_in_turn false n k = n - 1 - k
 
 -- w is the store d with its n bars from place `at` on replaced by the n bars of the store s from place `from` on, of the elements what is in use
 pub record CopiedInUse (d : MergedStore) (at : ℕ) (s : MergedStore) (from n : ℕ) (w : MergedStore) : Type 0 where

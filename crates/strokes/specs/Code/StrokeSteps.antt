@@ -1,6 +1,6 @@
 -- How the stroke store is written: the rows of a fractal, the fractals of a run of bars one after the other, as check_fxs takes them, a stroke that is made, and
 -- the oldest one shed. Definitions only.
-use Rattle.std.specs.Prelude.{ℕ, zero, suc, ◌+◌, ◌-◌, ◌*◌, ◌/◌, ◌≤◌, ◌<◌, Bool, true, false, List, [], ◌∷◌, ◌++◌, map, ◌≡◌, length, take, drop, get_or, set, T, ltb, ℤ, pos, Float}
+use Rattle.std.specs.Prelude.{ℕ, ◌+◌, ◌-◌, ◌*◌, ◌/◌, ◌≤◌, ◌<◌, Bool, true, false, List, [], ◌∷◌, ◌++◌, map, ◌≡◌, length, take, drop, get_or, set, T, ltb, ℤ, pos, Float}
 use Rattle.std.proofs.Math.Option.{Option, none, some}
 use Rattle.std.specs.Prelude as Std
 use Rattle.std.specs.Float.{nan}

@@ -5,7 +5,7 @@ use Rattle.asking.proofs.plan.plan_of.Goals as goal
 
 pub kept_plan-requires : goal.kept_plan-requires
 unfolding end_in bars_made
-kept_plan-requires c = (omega arith, omega arith, omega (arith, c.len-then-len-lt3.ensures, c.args.view.few))
+kept_plan-requires c = (omega arith, omega arith, omega (arith, c.len-then-len-lt3.ensures, c.requires.few))
 
 pub returns-then-len-lt3-clause-value : goal.returns-then-len-lt3-clause-value
 returns-then-len-lt3-clause-value c =

@@ -1,88 +1,114 @@
-use native.Mathlib.Omega.{arith}
-use mathlib.Core.Path.{◌≡◌, ◌∙◌}
+use mathlib.Core.Bool.{Bool, true, false}
+use mathlib.Core.Path.{◌≡◌, sym, ◌∙◌, subst}
 use lib.ListN.{length}
-use Rattle.stores.specs.Stores.{raw_store, merged_store}
-use Rattle.strokes.specs.Lent.{fractal_store, stores_of}
-use Rattle.strokes.specs.StateRead.{bar_counts}
+use Rattle.std.specs.Prelude.{Ok, Err}
+use Rattle.std.proofs.lemmas.Result.{err_from_is_err_and}
+use Rattle.strokes.specs.Lent.{stores_of}
+use Rattle.strokes.specs.Columns.{stores_in}
 use Rattle.sound.proofs.SoundFacts.{facts}
-use Rattle.asking.proofs.AskedMeans.{early_asks, asked-early, can_try, asked-last, sum-small}
+use Rattle.asking.specs.Code.AskSteps.{TriedOf}
+use Rattle.asking.proofs.AskedMeans.{early_asks, asked-early, can_try, asked-late, asked-last}
 use Rattle.asking.proofs.questions.ask.Goals as goal
 
-pub ask_early-first-requires : goal.ask_early-first-requires
+pub ask_early-requires : goal.ask_early-requires
 unfolding stores_of
-ask_early-first-requires c = let a = c.args in
-    let s = a.stand in
-    let g = c.well_formed.0 in
-    let lb : length s.bars ≡ 65 = g.1.1.1.1.1.1.1.1.0.1.0.1 in
-    let lf : length s.fractals ≡ 65 = g.1.1.1.1.1.1.1.1.1.0.1.0.1 in
-    let m = stores_of (raw_store a.rt.now a.ri.now a.rp.now) (merged_store a.ut.now a.ui.now a.up.now a.uc.now a.ue.now) (merged_store a.st.now a.si.now a.sp.now a.sc.now a.se.now) (fractal_store a.fs.now a.fp.now) in
-    let h = facts s m lb lf c.requires.fact_1 in
-    let asked = early_asks s m h in record { fact_1 = asked.0; fact_2 = asked.1 }
-
-pub returns-then-failed-ne0 : goal.returns-then-failed-ne0
-unfolding stores_of
-returns-then-failed-ne0 c =
+ask_early-requires c =
     let a = c.args in
     let s = a.stand in
+    let m = stores_in a.stores in
     let g = c.well_formed.0 in
     let lb : length s.bars ≡ 65 = g.1.1.1.1.1.1.1.1.0.1.0.1 in
     let lf : length s.fractals ≡ 65 = g.1.1.1.1.1.1.1.1.1.0.1.0.1 in
-    let m = stores_of (raw_store a.rt.now a.ri.now a.rp.now) (merged_store a.ut.now a.ui.now a.up.now a.uc.now a.ue.now) (merged_store a.st.now a.si.now a.sp.now a.sc.now a.se.now) (fractal_store a.fs.now a.fp.now) in
-    let h = facts s m lb lf c.requires.fact_1 in
-    let e = c.ask_early-first.result in
-    let q = c.ask_early-first.ensures in
-    asked-early s m h lb lf a.b e q _ c.if-failed-ne0.true
+    let h = facts s m lb lf c.requires.sound in
+    early_asks s m h
 
-pub total_bars-used-requires : goal.total_bars-used-requires
+pub returns-in_err-later : goal.returns-in_err-later
 unfolding stores_of
-total_bars-used-requires c = let a = c.args in
-    let s = a.stand in
-    let g = c.well_formed.0 in
-    let lb : length s.bars ≡ 65 = g.1.1.1.1.1.1.1.1.0.1.0.1 in
-    let lf : length s.fractals ≡ 65 = g.1.1.1.1.1.1.1.1.1.0.1.0.1 in
-    let m = stores_of (raw_store a.rt.now a.ri.now a.rp.now) (merged_store a.ut.now a.ui.now a.up.now a.uc.now a.ue.now) (merged_store a.st.now a.si.now a.sp.now a.sc.now a.se.now) (fractal_store a.fs.now a.fp.now) in
-    let h = facts s m lb lf c.requires.fact_1 in
-    let w = sum-small s m h in
-    let few = w.1 in
-    record { fact_1 = w.0; fact_2 = omega arith }
-
-pub try_bar-tried-requires : goal.try_bar-tried-requires
-unfolding stores_of bar_counts
-try_bar-tried-requires c = let a = c.args in
-    let s = a.stand in
-    let g = c.well_formed.0 in
-    let lb : length s.bars ≡ 65 = g.1.1.1.1.1.1.1.1.0.1.0.1 in
-    let lf : length s.fractals ≡ 65 = g.1.1.1.1.1.1.1.1.1.0.1.0.1 in
-    let m = stores_of (raw_store a.rt.now a.ri.now a.rp.now) (merged_store a.ut.now a.ui.now a.up.now a.uc.now a.ue.now) (merged_store a.st.now a.si.now a.sp.now a.sc.now a.se.now) (fractal_store a.fs.now a.fp.now) in
-    let h = facts s m lb lf c.requires.fact_1 in
-    let e = c.ask_early-first.result in
-    let q = c.ask_early-first.ensures in
-    record { fact_1 = can_try s m h lb lf a.b e q _ c.total_bars-used.ensures; fact_2 = c.requires.fact_2 }
-
-pub refused-no-requires : goal.refused-no-requires
-unfolding stores_of
-refused-no-requires c =
+returns-in_err-later c =
     let a = c.args in
     let s = a.stand in
+    let m = stores_in a.stores in
     let g = c.well_formed.0 in
     let lb : length s.bars ≡ 65 = g.1.1.1.1.1.1.1.1.0.1.0.1 in
     let lf : length s.fractals ≡ 65 = g.1.1.1.1.1.1.1.1.1.0.1.0.1 in
-    let m = stores_of (raw_store a.rt.now a.ri.now a.rp.now) (merged_store a.ut.now a.ui.now a.up.now a.uc.now a.ue.now) (merged_store a.st.now a.si.now a.sp.now a.sc.now a.se.now) (fractal_store a.fs.now a.fp.now) in
-    let h = facts s m lb lf c.requires.fact_1 in
-    let w = (sum-small s m h).1 in
-    let sum = c.total_bars-used.ensures in
-    (omega arith, c.try_bar-tried.ensures.found)
+    let h = facts s m lb lf c.requires.sound in
+    let p = err_from_is_err_and c.from_residual.result c.from_residual.ensures.1 in
+    rw (p.1, p.2) (asked-early s m h lb lf a.b _ c.in_err-later.ensures)
+
+-- ---- a later bar
+
+pub try_later-requires : goal.try_later-requires
+unfolding stores_of
+try_later-requires c =
+    let a = c.args in
+    let s = a.stand in
+    let m = stores_in a.stores in
+    let g = c.well_formed.0 in
+    let lb : length s.bars ≡ 65 = g.1.1.1.1.1.1.1.1.0.1.0.1 in
+    let lf : length s.fractals ≡ 65 = g.1.1.1.1.1.1.1.1.1.0.1.0.1 in
+    let h = facts s m lb lf c.requires.sound in
+    record { bar = can_try s m h lb lf a.b true (sym c.if-later.true ∙ c.in_ok-later.ensures.later); clear = c.requires.clear }
+
+pub returns-in_err-plan : goal.returns-in_err-plan
+unfolding stores_of
+returns-in_err-plan c =
+    let a = c.args in
+    let s = a.stand in
+    let m = stores_in a.stores in
+    let g = c.well_formed.0 in
+    let lb : length s.bars ≡ 65 = g.1.1.1.1.1.1.1.1.0.1.0.1 in
+    let lf : length s.fractals ≡ 65 = g.1.1.1.1.1.1.1.1.1.0.1.0.1 in
+    let h = facts s m lb lf c.requires.sound in
+    let p = err_from_is_err_and c.from_residual-in_err-plan.result c.from_residual-in_err-plan.ensures.1 in
+    rw (p.1, p.2) (asked-late s m h lb lf a.b _ c.in_ok-later.ensures _ (subst (λ (x : Bool). TriedOf x s m a.b (Err c.in_err-plan.field-0.0)) (sym c.if-later.true) c.in_err-plan.ensures))
+
+pub returns-then-later : goal.returns-then-later
+unfolding stores_of
+returns-then-later c =
+    let a = c.args in
+    let s = a.stand in
+    let m = stores_in a.stores in
+    let g = c.well_formed.0 in
+    let lb : length s.bars ≡ 65 = g.1.1.1.1.1.1.1.1.0.1.0.1 in
+    let lf : length s.fractals ≡ 65 = g.1.1.1.1.1.1.1.1.1.0.1.0.1 in
+    let h = facts s m lb lf c.requires.sound in
+    asked-last s m h lb lf a.b _ c.in_ok-later.ensures _ (subst (λ (x : Bool). TriedOf x s m a.b (Ok c.in_ok-plan.plan)) (sym c.if-later.true) c.in_ok-plan.ensures)
+
+-- ---- a bar with the last time
+
+pub try_again-requires : goal.try_again-requires
+unfolding stores_of
+try_again-requires c =
+    let a = c.args in
+    let s = a.stand in
+    let m = stores_in a.stores in
+    let g = c.well_formed.0 in
+    let lb : length s.bars ≡ 65 = g.1.1.1.1.1.1.1.1.0.1.0.1 in
+    let lf : length s.fractals ≡ 65 = g.1.1.1.1.1.1.1.1.1.0.1.0.1 in
+    let h = facts s m lb lf c.requires.sound in
+    record { bar = can_try s m h lb lf a.b false (sym c.if-later.false ∙ c.in_ok-later.ensures.later); clear = c.requires.clear }
+
+pub returns-in_err-plan-2 : goal.returns-in_err-plan-2
+unfolding stores_of
+returns-in_err-plan-2 c =
+    let a = c.args in
+    let s = a.stand in
+    let m = stores_in a.stores in
+    let g = c.well_formed.0 in
+    let lb : length s.bars ≡ 65 = g.1.1.1.1.1.1.1.1.0.1.0.1 in
+    let lf : length s.fractals ≡ 65 = g.1.1.1.1.1.1.1.1.1.0.1.0.1 in
+    let h = facts s m lb lf c.requires.sound in
+    let p = err_from_is_err_and c.from_residual-in_err-plan-2.result c.from_residual-in_err-plan-2.ensures.1 in
+    rw (p.1, p.2) (asked-late s m h lb lf a.b _ c.in_ok-later.ensures _ (subst (λ (x : Bool). TriedOf x s m a.b (Err c.in_err-plan-2.field-0.0)) (sym c.if-later.false) c.in_err-plan-2.ensures))
 
 pub returns : goal.returns
 unfolding stores_of
 returns c =
     let a = c.args in
     let s = a.stand in
+    let m = stores_in a.stores in
     let g = c.well_formed.0 in
     let lb : length s.bars ≡ 65 = g.1.1.1.1.1.1.1.1.0.1.0.1 in
     let lf : length s.fractals ≡ 65 = g.1.1.1.1.1.1.1.1.1.0.1.0.1 in
-    let m = stores_of (raw_store a.rt.now a.ri.now a.rp.now) (merged_store a.ut.now a.ui.now a.up.now a.uc.now a.ue.now) (merged_store a.st.now a.si.now a.sp.now a.sc.now a.se.now) (fractal_store a.fs.now a.fp.now) in
-    let h = facts s m lb lf c.requires.fact_1 in
-    let e = c.ask_early-first.result in
-    let q = c.ask_early-first.ensures in
-    asked-last s m h lb lf a.b e q _ _ _ c.if-failed-ne0.false c.try_bar-tried.ensures c.total_bars-used.ensures (c.number_of.ensures ∙ c.refused-no.ensures)
+    let h = facts s m lb lf c.requires.sound in
+    asked-last s m h lb lf a.b _ c.in_ok-later.ensures _ (subst (λ (x : Bool). TriedOf x s m a.b (Ok c.in_ok-plan-2.plan)) (sym c.if-later.false) c.in_ok-plan-2.ensures)

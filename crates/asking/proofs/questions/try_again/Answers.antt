@@ -1,40 +1,26 @@
-use borrow.Author.Rules.{rules}
 use native.Mathlib.Omega.{arith}
-use Rattle.stores.specs.Stores.{raw_store, merged_store, raw_part}
-use Rattle.asking.proofs.AskLaws.{can_plan, again-tail, again_tried, try_columns, try_done}
 use mathlib.Core.Bool.{false}
+use mathlib.Core.Path.{refl}
+use Rattle.strokes.specs.Lent.{stores_of}
+use Rattle.strokes.specs.Columns.{stores_in}
+use Rattle.asking.proofs.AskLaws.{can_plan, tried, bars_again}
 use Rattle.asking.proofs.questions.try_again.Goals as goal
 
-pub tail_again-tail-requires : goal.tail_again-tail-requires
-tail_again-tail-requires c = let a = c.args in
-    let r = raw_store a.rt.now a.ri.now a.rp.now in
-    let u = merged_store a.ut.now a.ui.now a.up.now a.uc.now a.ue.now in
-    record { fact_1 = c.requires.fact_1.raw; fact_2 = again-tail a.stand r u a.st.now a.fp.now c.requires.fact_1 a.b _ (record { times = search rules; ids = search rules; prices = search rules }) }
+pub again-requires : goal.again-requires
+unfolding stores_of
+again-requires c =
+    let h = c.requires.bar in
+    (omega arith, ((c.new-tail.ensures, omega arith), (h.raw, record { store = h.unfinished; fits = h.fits; again = h.again refl })))
 
-pub plan_with-plan-requires : goal.plan_with-plan-requires
-plan_with-plan-requires c = let a = c.args in
-    let r = raw_store a.rt.now a.ri.now a.rp.now in
-    let u = merged_store a.ut.now a.ui.now a.up.now a.uc.now a.ue.now in
-    let h = can_plan false a.stand r u a.st.now a.fp.now c.requires.fact_1 a.b in
-    let q = c.tail_again-tail.ensures in
-    record { fact_1 = try_columns a.stand (raw_part u) a.st.now a.fp.now h _ 103 _ _ _ (omega arith) q.0 q.1; fact_2 = c.requires.fact_1.last; fact_3 = c.requires.fact_2 }
-
-pub overflow_add-total : goal.overflow_add-total
-overflow_add-total c =
+pub try_tail-requires : goal.try_tail-requires
+unfolding stores_of
+try_tail-requires c =
     let a = c.args in
-    let r = raw_store a.rt.now a.ri.now a.rp.now in
-    let u = merged_store a.ut.now a.ui.now a.up.now a.uc.now a.ue.now in
-    let h = can_plan false a.stand r u a.st.now a.fp.now c.requires.fact_1 a.b in
-    let q = c.tail_again-tail.ensures in
-    let few = (try_columns a.stand (raw_part u) a.st.now a.fp.now h _ 103 _ _ _ (omega arith) q.0 q.1).few in
-    omega arith
+    (omega arith, (can_plan false a.stand (stores_in a.stores) c.requires.bar a.b _ _ c.again.ensures (omega arith), c.requires.clear))
 
 pub returns : goal.returns
+unfolding stores_of
 returns c =
     let a = c.args in
-    let r = raw_store a.rt.now a.ri.now a.rp.now in
-    let u = merged_store a.ut.now a.ui.now a.up.now a.uc.now a.ue.now in
-    let h = can_plan false a.stand r u a.st.now a.fp.now c.requires.fact_1 a.b in
-    let q = c.tail_again-tail.ensures in
-    again_tried a.stand r u a.st.now a.fp.now c.requires.fact_1 a.b _
-    (try_done a.stand (raw_part u) a.st.now a.fp.now h _ 103 _ _ _ (omega arith) q.0 q.1 _ c.plan_with-plan.ensures)
+    let m = stores_in a.stores in
+    tried false a.stand m c.requires.bar a.b _ _ c.again.ensures _ (bars_again a.stand m a.b) c.try_tail.ensures

@@ -1,32 +1,28 @@
-use borrow.Author.Rules.{rules}
 use native.Mathlib.Omega.{arith}
-use Rattle.stores.specs.Stores.{raw_store}
-use Rattle.asking.proofs.AskLaws.{later-tail, try_columns, try_done}
+use mathlib.Core.Bool.{true}
+use Rattle.stores.specs.Columns.{raw_in}
+use Rattle.strokes.specs.Lent.{stores_of}
+use Rattle.strokes.specs.Columns.{stores_in}
+use Rattle.asking.proofs.AskLaws.{can_plan, tried, bars_later, holds_unfinished, later_has}
 use Rattle.asking.proofs.questions.try_later.Goals as goal
 
-pub tail_later-tail-requires : goal.tail_later-tail-requires
-tail_later-tail-requires c =
+pub later-requires : goal.later-requires
+unfolding stores_of
+later-requires c =
     let a = c.args in
-    let u = raw_store a.ut.now a.ui.now a.up.now in
-    later-tail a.stand u _ a.st.now a.fp.now c.requires.fact_1 (record { times = search rules; ids = search rules; prices = search rules })
+    (omega arith, ((c.new-tail.ensures, omega arith), holds_unfinished true a.stand (stores_in a.stores) (raw_in c.bars.result) c.bars.ensures c.requires.bar))
 
-pub plan_with-plan-requires : goal.plan_with-plan-requires
-plan_with-plan-requires c = let a = c.args in
-    let u = raw_store a.ut.now a.ui.now a.up.now in
-    let q = c.tail_later-tail.ensures in
-    record { fact_1 = try_columns a.stand u a.st.now a.fp.now c.requires.fact_1 _ _ _ _ _ (search rules) q.0 q.1; fact_2 = c.requires.fact_1.last; fact_3 = c.requires.fact_2 }
-
-pub overflow_add-total : goal.overflow_add-total
-overflow_add-total c =
+pub try_tail-requires : goal.try_tail-requires
+unfolding stores_of
+try_tail-requires c =
     let a = c.args in
-    let u = raw_store a.ut.now a.ui.now a.up.now in
-    let q = c.tail_later-tail.ensures in
-    let few = (try_columns a.stand u a.st.now a.fp.now c.requires.fact_1 _ _ _ _ _ (search rules) q.0 q.1).few in
-    omega arith
+    let m = stores_in a.stores in
+    (omega arith, (can_plan true a.stand m c.requires.bar a.b _ _ (later_has a.stand m a.b _ (raw_in c.bars.result) c.bars.ensures (c.later.ensures.0, c.later.ensures.1)) (omega arith), c.requires.clear))
 
 pub returns : goal.returns
+unfolding stores_of
 returns c =
     let a = c.args in
-    let u = raw_store a.ut.now a.ui.now a.up.now in
-    let q = c.tail_later-tail.ensures in
-    try_done a.stand u a.st.now a.fp.now c.requires.fact_1 _ _ _ _ _ (search rules) q.0 q.1 _ c.plan_with-plan.ensures
+    let m = stores_in a.stores in
+    tried true a.stand m c.requires.bar a.b _ _ (later_has a.stand m a.b _ (raw_in c.bars.result) c.bars.ensures (c.later.ensures.0, c.later.ensures.1)) _ (bars_later a.stand m a.b c.requires.bar.unfinished)
+    c.try_tail.ensures

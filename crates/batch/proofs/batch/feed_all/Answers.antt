@@ -10,22 +10,22 @@ returns-in_err-stand-clause-batch c =
     let a = c.args in
     let p = err_from_is_err_and c.from_residual.result c.from_residual.ensures.1 in
     rw (p.1, p.2)
-    (batch-refused a.minimum a.most a.power a.ratio _ _ _ (failed_seen a.minimum a.most a.power a.ratio c.seen-r.ensures c.seen-u.ensures c.seen-k.ensures c.seen-f.ensures c.in_err-stand.ensures.refused))
+    (batch-refused a.settings.minimum a.settings.most a.settings.power a.settings.ratio _ _ _ (failed_seen a.settings.minimum a.settings.most a.settings.power a.settings.ratio c.of-stores.ensures c.in_err-stand.ensures.refused))
 
 -- ---- the bars are fed
 
 pub feed_from-requires : goal.feed_from-requires
 feed_from-requires c =
     let a = c.args in
-    can_batch a.minimum a.most a.power a.ratio _ _ _ _
-    (failed_seen a.minimum a.most a.power a.ratio c.seen-r.ensures c.seen-u.ensures c.seen-k.ensures c.seen-f.ensures c.in_ok-stand.ensures.refused)
-    (begun_seen a.minimum a.most a.power a.ratio c.seen-r.ensures c.seen-u.ensures c.seen-k.ensures c.seen-f.ensures c.in_ok-stand.ensures.begun)
+    can_batch a.settings.minimum a.settings.most a.settings.power a.settings.ratio _ _ _ _
+    (failed_seen a.settings.minimum a.settings.most a.settings.power a.settings.ratio c.of-stores.ensures c.in_ok-stand.ensures.refused)
+    (begun_seen a.settings.minimum a.settings.most a.settings.power a.settings.ratio c.of-stores.ensures c.in_ok-stand.ensures.begun)
     (search rules)
 
 pub returns-clause-batch : goal.returns-clause-batch
 returns-clause-batch c =
     let a = c.args in
-    batch-answered a.minimum a.most a.power a.ratio _ _ _ _
-    (failed_seen a.minimum a.most a.power a.ratio c.seen-r.ensures c.seen-u.ensures c.seen-k.ensures c.seen-f.ensures c.in_ok-stand.ensures.refused)
-    (begun_seen a.minimum a.most a.power a.ratio c.seen-r.ensures c.seen-u.ensures c.seen-k.ensures c.seen-f.ensures c.in_ok-stand.ensures.begun)
+    batch-answered a.settings.minimum a.settings.most a.settings.power a.settings.ratio _ _ _ _
+    (failed_seen a.settings.minimum a.settings.most a.settings.power a.settings.ratio c.of-stores.ensures c.in_ok-stand.ensures.refused)
+    (begun_seen a.settings.minimum a.settings.most a.settings.power a.settings.ratio c.of-stores.ensures c.in_ok-stand.ensures.begun)
     c.feed_from.ensures.fed

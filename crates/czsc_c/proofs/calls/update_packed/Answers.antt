@@ -14,25 +14,25 @@ returns-in_err-stand-clause-handed c =
     let a = c.args in
     let p = err_from_is_err_and c.from_residual.result c.from_residual.ensures.1 in
     rw p.1
-    (refused-before a.numbers.now a.counts.now a.events.now (written_in a.raw.now a.unfinished.now a.strokes.now a.fractals.now) a.b (number p.0)
-    (ap number p.2 ∙ before_seen c.seen-r.ensures c.seen-u.ensures c.seen-k.ensures c.seen-f.ensures _ _ _ c.in_err-stand.ensures.failed) (numbered p.0))
+    (refused-before a.rows.now.numbers.now a.rows.now.counts.now a.events.now (written_in a.raw.now a.unfinished.now a.strokes.now a.fractals.now) a.b (number p.0)
+    (ap number p.2 ∙ before_seen c.of-stores.ensures _ _ _ c.in_err-stand.ensures.failed) (numbered p.0))
 
 pub feed_sound-fed-requires : goal.feed_sound-fed-requires
 feed_sound-fed-requires c =
     let a = c.args in
     let m = written_in a.raw.now a.unfinished.now a.strokes.now a.fractals.now in
-    let z = sym (before_seen c.seen-r.ensures c.seen-u.ensures c.seen-k.ensures c.seen-f.ensures _ _ _ c.in_ok-stand.ensures.failed) in
-    record { sound = subst (λ (x : Stand). IsSound x m) (sym c.in_ok-stand.ensures.stand) (passed a.numbers.now a.counts.now a.events.now m z).1; clear = clear_none _ }
+    let z = sym (before_seen c.of-stores.ensures _ _ _ c.in_ok-stand.ensures.failed) in
+    record { sound = subst (λ (x : Stand). IsSound x m) (sym c.in_ok-stand.ensures.stand) (passed a.rows.now.numbers.now a.rows.now.counts.now a.events.now m z).1; clear = clear_none _ }
 
 pub hand_over-requires : goal.hand_over-requires
 hand_over-requires c =
     let a = c.args in
-    (passed a.numbers.now a.counts.now a.events.now (written_in a.raw.now a.unfinished.now a.strokes.now a.fractals.now)
-    (sym (before_seen c.seen-r.ensures c.seen-u.ensures c.seen-k.ensures c.seen-f.ensures _ _ _ c.in_ok-stand.ensures.failed))).0
+    (passed a.rows.now.numbers.now a.rows.now.counts.now a.events.now (written_in a.raw.now a.unfinished.now a.strokes.now a.fractals.now)
+    (sym (before_seen c.of-stores.ensures _ _ _ c.in_ok-stand.ensures.failed))).0
 
 pub returns-clause-handed : goal.returns-clause-handed
 returns-clause-handed c =
     let a = c.args in
     let m = written_in a.raw.now a.unfinished.now a.strokes.now a.fractals.now in
-    fed_then a.numbers.now a.counts.now a.events.now m (sym (before_seen c.seen-r.ensures c.seen-u.ensures c.seen-k.ensures c.seen-f.ensures _ _ _ c.in_ok-stand.ensures.failed))
-    (fed_handed a.numbers.now a.counts.now a.events.now m _ _ c.feed_sound-fed.result c.in_ok-stand.ensures.stand c.feed_sound-fed.ensures.feed c.hand_over.ensures)
+    fed_then a.rows.now.numbers.now a.rows.now.counts.now a.events.now m (sym (before_seen c.of-stores.ensures _ _ _ c.in_ok-stand.ensures.failed))
+    (fed_handed a.rows.now.numbers.now a.rows.now.counts.now a.events.now m _ _ c.feed_sound-fed.result c.in_ok-stand.ensures.stand c.feed_sound-fed.ensures.feed c.hand_over.ensures.handed)

@@ -1,17 +1,25 @@
-use mathlib.Core.Path.{sym, ◌∙◌}
-use Rattle.feed.proofs.AskedNumber.{of_feed}
-use Rattle.feed.proofs.FeedLaws.{asked_seen, feed-refused, feed_yes}
+use mathlib.Core.Path.{sym, subst}
+use Rattle.std.proofs.lemmas.Result.{err_from_is_err_and}
+use Rattle.strokes.specs.Lent.{Stores, stores_of}
+use Rattle.sound.specs.StandSound.{IsSound}
+use Rattle.check_bi.specs.Code.Windows.{NoFractals}
+use Rattle.feed.proofs.FeedLaws.{asked-no, can_write, feed_yes, asked_seen}
 use Rattle.feed.proofs.feed.feed_sound.Goals as goal
 
-pub question_of-requires : goal.question_of-requires
-question_of-requires c = of_feed _ _ _ _ (asked_seen c.seen-r.ensures c.seen-u.ensures c.seen-k.ensures c.seen-f.ensures _ _ _ c.ask-asked.ensures).failed c.if-asked-ne0.true
+pub ask-requires : goal.ask-requires
+unfolding stores_of
+ask-requires c =
+    let e = sym c.of-stores.ensures in
+    record { sound = subst (IsSound c.args.stand.now) e c.requires.sound; clear = subst (λ (m : Stores). NoFractals m.unfinished.prices c.args.clear) e c.requires.clear }
 
-pub returns-then-asked-ne0-clause-feed : goal.returns-then-asked-ne0-clause-feed
-returns-then-asked-ne0-clause-feed c =
-    let q = asked_seen c.seen-r.ensures c.seen-u.ensures c.seen-k.ensures c.seen-f.ensures _ _ _ c.ask-asked.ensures in
-    feed-refused c.args.stand.now _ c.args.b _ c.requires.sound (c.question_of.ensures ∙ q.failed) (λ z. c.if-asked-ne0.true (sym c.question_of.ensures ∙ z))
+pub returns-in_err-asked-clause-feed : goal.returns-in_err-asked-clause-feed
+returns-in_err-asked-clause-feed c =
+    let p = err_from_is_err_and c.from_residual.result c.from_residual.ensures.1 in
+    rw (p.1, p.2) (asked-no c.args.stand.now _ c.args.b _ c.requires.sound (asked_seen _ _ _ c.of-stores.ensures c.in_err-asked.ensures))
+
+pub write-w-requires : goal.write-w-requires
+write-w-requires c = can_write c.args.stand.now _ c.args.b _ c.requires.sound (asked_seen _ _ _ c.of-stores.ensures c.in_ok-asked.ensures)
 
 pub returns-clause-feed : goal.returns-clause-feed
 returns-clause-feed c =
-    let q = asked_seen c.seen-r.ensures c.seen-u.ensures c.seen-k.ensures c.seen-f.ensures _ _ _ c.ask-asked.ensures in
-    feed_yes c.args.stand.now _ c.args.b c.ask-asked.result c.write-w.result _ c.requires.sound q c.if-asked-ne0.false c.write-w.ensures.written
+    feed_yes c.args.stand.now _ c.args.b _ c.write-w.result _ c.requires.sound (asked_seen _ _ _ c.of-stores.ensures c.in_ok-asked.ensures) c.write-w.ensures.written

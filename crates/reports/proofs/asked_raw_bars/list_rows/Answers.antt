@@ -1,30 +1,40 @@
 use native.Mathlib.Omega.{arith}
-use Rattle.stores.specs.Columns.{raw_in, raw_of}
-use Rattle.reports.specs.Code.ElementPrices.{elements_in}
+use mathlib.Core.Path.{ap}
+use lib.ListN.{length}
+use Rattle.stores.specs.Stores.{RawStore}
+use Rattle.stores.specs.Columns.{raw_of}
+use Rattle.reports.specs.Code.ElementPrices.{elements_in, named_bar}
 use Rattle.reports.proofs.InnerRawLaws.{same_none, list_few, list_room, list_all}
 use Rattle.reports.proofs.asked_raw_bars.list_rows.Goals as goal
 
-pub count_elements-m-requires : goal.count_elements-m-requires
-count_elements-m-requires c = c.requires.fact_2
-
-pub returns-then-room-m : goal.returns-then-room-m
-returns-then-room-m c = let a = c.args in
-    let x = c.min.ensures in
-    let y = c.min-room.ensures in
-    let h = c.if-room-m.true in
-    record { listed = list_few (raw_in a.raw) a.n (elements_in a.cs.now a.es.now) (raw_of a.out.now) _ c.count_elements-m.ensures (omega (arith, x, y, h)); same = same_none _ }
+pub returns-then-rows-m : goal.returns-then-rows-m
+returns-then-rows-m c =
+    let s = c.args.inner in
+    let h = c.if-rows-m.true in
+    let e = c.seen.ensures in
+    let times = ap (λ (r : RawStore). length r.times) e in
+    let ids = ap (λ (r : RawStore). length r.ids) e in
+    let prices = ap (λ (r : RawStore). length r.prices) e in
+    record { listed = list_few (named_bar s.raw) (elements_in s.counts.now s.elements.now) (raw_of c.args.out.now) _ c.count_elements-m.ensures (omega (arith, times, ids, prices, c.rows.ensures, h)); same = same_none _ }
 
 pub put_rows-requires : goal.put_rows-requires
-put_rows-requires c = let a = c.args in
-    let x = c.min.ensures in
-    let y = c.min-room.ensures in
-    let h = c.if-room-m.false in
-    record { fact_1 = c.requires.fact_1; fact_2 = c.requires.fact_2.0; fact_3 = c.requires.fact_3; fact_4 = list_room (raw_in a.raw) a.n (elements_in a.cs.now a.es.now) (raw_of a.out.now) _ c.count_elements-m.ensures (omega (arith, x, y, h)) }
+put_rows-requires c =
+    let s = c.args.inner in
+    let h = c.if-rows-m.false in
+    let e = c.seen.ensures in
+    let times = ap (λ (r : RawStore). length r.times) e in
+    let ids = ap (λ (r : RawStore). length r.ids) e in
+    let prices = ap (λ (r : RawStore). length r.prices) e in
+    list_room (named_bar s.raw) (elements_in s.counts.now s.elements.now) (raw_of c.args.out.now) _ c.count_elements-m.ensures (omega (arith, times, ids, prices, c.rows.ensures, h))
 
 pub returns : goal.returns
-returns c = let a = c.args in
-    let x = c.min.ensures in
-    let y = c.min-room.ensures in
-    let h = c.if-room-m.false in
-    let room = list_room (raw_in a.raw) a.n (elements_in a.cs.now a.es.now) (raw_of a.out.now) _ c.count_elements-m.ensures (omega (arith, x, y, h)) in
-    record { listed = list_all (raw_in a.raw) a.n (elements_in a.cs.now a.es.now) (raw_of a.out.now) _ c.count_elements-m.ensures _ c.put_rows.ensures.put room; same = c.put_rows.ensures.same }
+returns c =
+    let s = c.args.inner in
+    let h = c.if-rows-m.false in
+    let l = elements_in s.counts.now s.elements.now in
+    let e = c.seen.ensures in
+    let times = ap (λ (r : RawStore). length r.times) e in
+    let ids = ap (λ (r : RawStore). length r.ids) e in
+    let prices = ap (λ (r : RawStore). length r.prices) e in
+    let room = list_room (named_bar s.raw) l (raw_of c.args.out.now) _ c.count_elements-m.ensures (omega (arith, times, ids, prices, c.rows.ensures, h)) in
+    record { listed = list_all (named_bar s.raw) l (raw_of c.args.out.now) _ c.count_elements-m.ensures _ c.put_rows.ensures.put room; same = c.put_rows.ensures.same }

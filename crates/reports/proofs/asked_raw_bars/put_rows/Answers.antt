@@ -1,10 +1,14 @@
 use native.Mathlib.Omega.{arith}
-use mathlib.Core.Path.{refl, ap, ◌∙◌}
-use mathlib.Core.List.{[]}
-use lib.ListN.{take, get_or}
-use Rattle.stores.specs.Columns.{raw_in, raw_of}
-use Rattle.reports.specs.Code.ElementPrices.{elements_in}
-use Rattle.reports.specs.Code.InnerRawSteps.{Filling, filling, put_named}
+use mathlib.Core.Path.{refl, ap, sym, subst, ◌∙◌}
+use mathlib.Core.List.{List, [], foldl}
+use lib.Dec.{T}
+use lib.IntN.{ℤ}
+use lib.ListN.{length, take, get_or}
+use Rattle.bars.specs.Lists.{every}
+use Rattle.sound.specs.Code.SoundStand.{is_time}
+use Rattle.stores.specs.Columns.{raw_of}
+use Rattle.reports.specs.Code.ElementPrices.{elements_in, named_bar}
+use Rattle.reports.specs.Code.InnerRawSteps.{Filling, filling, put_one}
 use Rattle.reports.proofs.MeasureLaws.{row_named, row-turn, row-end}
 use Rattle.reports.proofs.InnerRawLaws.{same_none, same_next, room_same, next_place, rows_next, row_within, rows_put}
 use Rattle.reports.proofs.asked_raw_bars.put_rows.Goals as goal
@@ -12,31 +16,33 @@ use Rattle.reports.proofs.asked_raw_bars.put_rows.Goals as goal
 pub loop-i-init : goal.loop-i-init
 loop-i-init c = (same_none _, omega arith, refl)
 
-pub put_row-k-requires : goal.put_row-k-requires
-put_row-k-requires c = let a = c.args in
+pub put_named-k-requires : goal.put_named-k-requires
+put_named-k-requires c =
+    let s = c.args.inner in
+    let ts = s.raw.columns.times.now in
     let l = c.loop-i in
     let h = c.loop-i-test.true in
-    let q = c.requires.fact_2 in
+    let e = c.elements_at.ensures.value in
     record {
-      fact_1 = c.requires.fact_1;
-      fact_2 = row_named a.cs.now a.es.now l.i q h (take a.n a.raw.times.now) c.requires.fact_3;
-      fact_3 = room_same _ _ _ _ l.invariant.0 c.requires.fact_4 (row_within a.cs.now a.es.now l.i q h l.k _ l.invariant.1);
+      named = subst (λ (x : List ℤ). T (every (is_time ts) x)) (sym e) (row_named s.counts.now s.elements.now l.i s.even h ts s.named);
+      room = room_same _ _ _ _ l.invariant.0 c.requires (omega (arith, ap (λ (x : List ℤ). length x) e, row_within s.counts.now s.elements.now l.i s.even h l.k _ l.invariant.1));
     }
 
 pub loop-i-preserved : goal.loop-i-preserved
-loop-i-preserved c = let a = c.args in
+loop-i-preserved c =
+    let s = c.args.inner in
     let l = c.loop-i in
     let h = c.loop-i-test.true in
-    let q = c.requires.fact_2 in
-    let s = raw_in a.raw in
-    let e = c.put_row-k.ensures.put in (
-      same_next _ _ _ l.invariant.0 c.put_row-k.ensures.same,
-      rows_next a.cs.now a.es.now l.i q h l.k _ _ (ap (λ (x : Filling). x.next) e ∙ next_place s a.n (filling (raw_of l.out) l.k) (take (get_or a.cs.now l.i 0) (get_or a.es.now l.i []))) l.invariant.1,
-      row-turn a.cs.now a.es.now l.i q h (put_named s a.n) (filling (raw_of l.out) l.k) _ _ e l.invariant.2,
+    let p = c.put_named-k.ensures in
+    let w = filling (raw_of l.out) l.k in
+    let e = p.put ∙ ap (λ (x : List ℤ). foldl (put_one (named_bar s.raw)) w x) c.elements_at.ensures.value in (
+      same_next _ _ _ l.invariant.0 p.same,
+      rows_next s.counts.now s.elements.now l.i s.even h l.k _ _ (ap (λ (x : Filling). x.next) e ∙ next_place (named_bar s.raw) w (take (get_or s.counts.now l.i 0) (get_or s.elements.now l.i []))) l.invariant.1,
+      row-turn s.counts.now s.elements.now l.i s.even h (put_one (named_bar s.raw)) w _ _ e l.invariant.2,
     )
 
 pub returns : goal.returns
-returns c = let a = c.args in
+returns c =
+    let s = c.args.inner in
     let l = c.loop-i in
-    let s = raw_in a.raw in
-    record { put = rows_put s a.n (raw_of a.out.now) (filling (raw_of l.out) l.k) (elements_in a.cs.now a.es.now) c.requires.fact_4 (row-end (put_named s a.n) a.cs.now a.es.now l.i _ _ c.requires.fact_2 c.loop-i-test.false l.invariant.2); same = l.invariant.0 }
+    record { put = rows_put (named_bar s.raw) (raw_of c.args.out.now) (filling (raw_of l.out) l.k) (elements_in s.counts.now s.elements.now) c.requires (row-end (put_one (named_bar s.raw)) s.counts.now s.elements.now l.i _ _ s.even c.loop-i-test.false l.invariant.2); same = l.invariant.0 }

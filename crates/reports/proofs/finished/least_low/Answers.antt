@@ -1,22 +1,19 @@
 use lib.Ieee.{of_bits, neg, div, inf, nan, Float}
 use lib.ListN.{get_or}
-use mathlib.Core.Path.{◌≡◌, ap, refl, sym, ◌∙◌}
-use mathlib.Core.List.{List, [], ◌∷◌}
+use mathlib.Core.Path.{◌∙◌}
+use mathlib.Core.List.{List}
 use mathlib.Core.Bool.{false}
-use Rattle.std.specs.List.{fold}
 use Rattle.arith.specs.Order.{min_of}
 use Rattle.named.specs.Folds.{least}
 use Rattle.std.proofs.Common.{rules}
-use Rattle.std.proofs.lemmas.Fn.{fold_over, fronts, slice_gives}
-use Rattle.std.proofs.lemmas.List.Sums.{fold-append}
+use Rattle.std.proofs.lemmas.Iterator.{YieldsList-from_slice}
+use Rattle.std.proofs.lemmas.Iterator.Consumers.{fold_from_yields_List}
 use Rattle.reports.proofs.ListLaws.{fold_read}
 use Rattle.reports.proofs.finished.least_low.Goals as goal
 
 pub returns : goal.returns
 unfolding of_bits neg div least
 returns c =
-    let F : Float → List Float → Float = λ h p. min_of h (get_or p 3 nan) in
-    fold_over fronts (λ y. y.now) _ (λ ys h. h ≡ fold F (inf false) ys) _
-    (λ ys a x b f' j k. (let e : b ≡ F a x.now = search rules in e ∙ ap (λ h. F h x.now) j ∙ sym (fold-append F (inf false) ys (x.now ∷ [])), search rules))
-    _ c.args.rows.now _ _ (search (rules, slice_gives)) refl c.fold.ensures.ran
-    ∙ fold_read min_of (λ p. get_or p 3 nan) (inf false) c.args.rows.now
+    let rows = c.args.rows.now in
+    let with_row : Float → List Float → Float = λ x p. min_of x (get_or p 3 nan) in
+    fold_from_yields_List _ with_row _ _ c.fold.ensures.ran (YieldsList-from_slice rows cc) (λ a x b q k. search rules) ∙ fold_read min_of (λ p. get_or p 3 nan) (inf false) rows

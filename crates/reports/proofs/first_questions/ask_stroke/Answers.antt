@@ -10,9 +10,9 @@ returns-in_err-ask_sound-clause-value c = rows_unsound _ _ _ _ _ c.from_residual
 pub returns-then-kept-place-clause-value : goal.returns-then-kept-place-clause-value
 returns-then-kept-place-clause-value c = rows_missing _ _ _ _ _ c.kept.ensures.0 c.in_ok-ask_sound.ensures.value c.if-kept-place.true
 
-pub rows_of-requires : goal.rows_of-requires
-rows_of-requires c = let k = c.kept.ensures in
+pub of-requires : goal.of-requires
+of-requires c = let k = c.kept.ensures in
     let asked = rows-small _ _ _ (is-sound _ _ (passed _ _ _ c.in_ok-ask_sound.ensures.value)) (let e = k.0 in let h = c.if-kept-place.false in omega arith) k.1 k.2 in record { fact_1 = asked.0; fact_2 = asked.1 }
 
 pub returns-clause-value : goal.returns-clause-value
-returns-clause-value c = rows_given _ _ _ _ _ _ c.kept.ensures.0 c.in_ok-ask_sound.ensures.value (let h = c.if-kept-place.false in omega arith) c.rows_of.ensures.0
+returns-clause-value c = rows_given _ _ _ _ _ _ c.kept.ensures.0 c.in_ok-ask_sound.ensures.value (let h = c.if-kept-place.false in omega arith) c.of.ensures.0

@@ -1,6 +1,7 @@
 use native.Mathlib.Omega.{arith}
 use Rattle.stores.specs.Columns.{raw_in}
-use Rattle.reports.specs.Code.FractalWalk.{mark_of, NextFractal}
+use Rattle.strokes.specs.Code.StrokeSteps.{last_mark}
+use Rattle.reports.specs.Code.FractalWalk.{NextFractal}
 use Rattle.reports.proofs.WalkLaws.{window_over, window_here, no_window}
 use Rattle.reports.proofs.fractal_walk.next_fractal.Goals as goal
 
@@ -9,14 +10,14 @@ loop-at-preserved c = let a = c.args in
     let l = c.loop-at in
     let h = c.loop-at-test.true in
     let s = c.saturating_sub-at-end.ensures in
-    window_over (raw_in a.bars) a.end l.at (mark_of a.last) c.requires (omega arith) _ _ _ c.bar-a.ensures c.bar-b.ensures c.bar-c.ensures _ c.fractal_after.ensures _ c.in_default.is l.invariant
+    window_over (raw_in a.bars) a.end l.at (last_mark a.last) c.requires (omega arith) _ _ _ c.bar-a.ensures c.bar-b.ensures c.bar-c.ensures _ c.fractal_after.ensures _ c.in_default.is l.invariant
 
 pub returns-in-Some : goal.returns-in-Some
 returns-in-Some c = let a = c.args in
     let l = c.loop-at in
     let h = c.loop-at-test.true in
     let s = c.saturating_sub-at-end.ensures in
-    window_here (raw_in a.bars) a.end l.at (mark_of a.last) c.requires (omega arith) _ _ _ c.bar-a.ensures c.bar-b.ensures c.bar-c.ensures _ c.fractal_after.ensures _ _ c.in-Some.is l.invariant
+    window_here (raw_in a.bars) a.end l.at (last_mark a.last) c.requires (omega arith) _ _ _ c.bar-a.ensures c.bar-b.ensures c.bar-c.ensures _ c.fractal_after.ensures _ _ c.in-Some.is l.invariant
 
 pub returns : goal.returns
 unfolding NextFractal
@@ -24,4 +25,4 @@ returns c = let a = c.args in
     let l = c.loop-at in
     let h = c.loop-at-test.false in
     let s = c.saturating_sub-at-end.ensures in
-    no_window (raw_in a.bars) a.end l.at (mark_of a.last) _ (omega arith) l.invariant
+    no_window (raw_in a.bars) a.end l.at (last_mark a.last) _ (omega arith) l.invariant

@@ -1,9 +1,12 @@
 use mathlib.Core.Path.{refl}
 use Rattle.stores.specs.Columns.{merged_of}
 use Rattle.strokes.specs.Code.BarSteps.{with_unfinished}
-use Rattle.strokes.proofs.StoredUnfinished.{begun-at}
+use Rattle.strokes.proofs.StoredUnfinished.{begun-at, begun-none}
 use Rattle.strokes.proofs.StoredCounts.{stay_moved}
 use Rattle.strokes.proofs.Stand.begin_at.Goals as goal
+
+pub returns-then-k-eq0-clause-has : goal.returns-then-k-eq0-clause-has
+returns-then-k-eq0-clause-has c = begun-none _ _ _ c.requires.fact_1 c.requires.fact_2 c.if-k-eq0.true
 
 pub returns-clause-has : goal.returns-clause-has
 unfolding with_unfinished

@@ -12,9 +12,9 @@ pub overflow_add-rest : goal.overflow_add-rest
 unfolding rest_of
 overflow_add-rest c = let p = c.requires in let x = p.inside in let y = p.fits in let z = p.unfinished.raw.times in let e = c.end_in.ensures in omega arith
 
-pub begin_from-n-requires : goal.begin_from-n-requires
+pub begin_at-n-requires : goal.begin_at-n-requires
 unfolding rest_of
-begin_from-n-requires c = let p = c.requires in
+begin_at-n-requires c = let p = c.requires in
     record { fact_1 = p.unfinished; fact_2 = p.fits; fact_3 = (let x = p.inside in let e = c.end_in.ensures in omega arith) }
 
 pub join_last-requires : goal.join_last-requires
@@ -22,7 +22,7 @@ unfolding rest_of with_unfinished
 join_last-requires c =
     let a = c.args in
     let p = c.requires in
-    let b = c.begin_from-n in
+    let b = c.begin_at-n in
     let k = merged_in a.strokes in
     let l = drop (a.plan.cut + c.end_in.result) (kept_unfinished a.stand (merged_of a.unfinished.now)) in
     let g = left-breaks a.stand (with_unfinished a.stand b.result) _ k l b.ensures.has p.strokes (rw c.end_in.ensures (p.breaks (sym c.is_some.ensures ∙ c.if-is_some.true))) in
@@ -33,7 +33,7 @@ unfolding rest_of with_unfinished
 returns-then-is_some-clause-has_unfinished c =
     let a = c.args in
     let p = c.requires in
-    let b = c.begin_from-n in
+    let b = c.begin_at-n in
     let k = merged_in a.strokes in
     let l = drop (a.plan.cut + c.end_in.result) (kept_unfinished a.stand (merged_of a.unfinished.now)) in
     rw (sym c.end_in.ensures, sym c.is_some.ensures) (left-joined a.stand (with_unfinished a.stand b.result) _ k l b.ensures.has _ _ _ c.if-is_some.true c.join_last.ensures.has_unfinished)
@@ -43,7 +43,7 @@ unfolding rest_of with_unfinished
 returns-then-is_some-clause-stay_sized c =
     let a = c.args in
     let p = c.requires in
-    let b = c.begin_from-n in
+    let b = c.begin_at-n in
     let k = merged_in a.strokes in
     let l = drop (a.plan.cut + c.end_in.result) (kept_unfinished a.stand (merged_of a.unfinished.now)) in
     λ t e. c.join_last.ensures.stay_sized (left-elements a.stand (with_unfinished a.stand b.result) _ k l b.ensures.has t) (b.ensures.sized e)
@@ -53,10 +53,10 @@ unfolding rest_of
 returns-clause-has_unfinished c =
     let a = c.args in
     let p = c.requires in
-    let b = c.begin_from-n in
+    let b = c.begin_at-n in
     let k = merged_in a.strokes in
     let l = drop (a.plan.cut + c.end_in.result) (kept_unfinished a.stand (merged_of a.unfinished.now)) in
     rw (sym c.end_in.ensures, sym c.is_some.ensures) (left_as_is a.stand (with_unfinished a.stand b.result) _ k l b.ensures.has _ b.result refl c.if-is_some.false)
 
 pub returns-clause-stay_sized : goal.returns-clause-stay_sized
-returns-clause-stay_sized c = λ t e. c.begin_from-n.ensures.sized e
+returns-clause-stay_sized c = λ t e. c.begin_at-n.ensures.sized e

@@ -15,5 +15,5 @@ unfolding set_bar
 returns-clause-store c =
     let a = c.args in
     let m = merged_of a.self.now in
-    let e : raw_store (set m.times a.at (to_z w64 (of_z w64 a.b.time))) (set m.ids a.at (to_z w32 (of_z w32 a.b.id))) (set m.prices a.at c.prices_of.result) ≡ set_bar (raw_part m) a.at a.b = search rules in
-    bar-written m _ a.at a.count a.b a.time _ _ _ (to_z-of_z w64 a.time c.ranges.time) e c.put_element.ensures
+    let e : raw_store (set m.times a.at (to_z w64 (of_z w64 a.bar.time))) (set m.ids a.at (to_z w32 (of_z w32 a.bar.id))) (set m.prices a.at c.prices.result) ≡ set_bar (raw_part m) a.at a.bar = search rules in
+    bar-written m _ a.at a.count a.bar a.time _ _ _ (to_z-of_z w64 a.time c.ranges.time) e c.put_element.ensures

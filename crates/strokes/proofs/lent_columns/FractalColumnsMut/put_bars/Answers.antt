@@ -1,9 +1,12 @@
-use borrow.Author.Rules.{rules}
+use Rattle.strokes.specs.Lent.{fractal_store}
+use Rattle.strokes.specs.Columns.{fractals_of}
 use Rattle.strokes.specs.Code.StrokeSteps.{set_fractal}
-use Rattle.strokes.specs.FractalRows.{stamps_of, prices_of}
-use Rattle.bars.specs.Bars.{row_of}
+use lib.ListN.{set}
 use Rattle.strokes.proofs.lent_columns.FractalColumnsMut.put_bars.Goals as goal
 
 pub returns-clause-store : goal.returns-clause-store
-unfolding set_fractal stamps_of prices_of row_of
-returns-clause-store c = search rules
+unfolding set_fractal
+returns-clause-store c =
+    let at = c.args.at in
+    let s = fractals_of c.args.self.now in
+    λ i. fractal_store (set s.stamps at (c.stamps_of.ensures i)) (set s.prices at (c.prices_of.ensures i))

@@ -1,27 +1,15 @@
-use Rattle.strokes.proofs.StoredFractals.{top_read, bottom_read}
-use Rattle.strokes.specs.Code.StrokeSteps.{put_window, put_window_if}
+use mathlib.Core.Path.{sym, ◌∙◌}
+use Rattle.check_bi.specs.Code.Scan.{mark_of}
+use Rattle.strokes.specs.Code.StrokeSteps.{plain_bar}
+use Rattle.strokes.proofs.StoredFractals.{put_marked, window_put}
 use Rattle.strokes.proofs.lent_columns.FractalColumnsMut.put_window.Goals as goal
 
-pub returns-then-is_top-clause-store : goal.returns-then-is_top-clause-store
-unfolding put_window put_window_if
-returns-then-is_top-clause-store c =
-    let a = c.args in
-    rw (top_read a.a a.b a.c c.candle_of-x.ensures c.candle_of-y.ensures c.candle_of-z.ensures c.is_top.ensures c.if-is_top.true) c.put_fractal.ensures.store
+pub returns-in-Some-clause-store : goal.returns-in-Some-clause-store
+unfolding plain_bar put_marked
+returns-in-Some-clause-store c =
+    c.put_fractal.ensures.store ∙ sym (window_put _ _ _ _ _ _ (c.in-Some.ensures ∙ (λ i. mark_of (c.of.ensures i) (c.of-2.ensures i) (c.of-3.ensures i))))
 
-pub returns-then-is_bottom-clause-store : goal.returns-then-is_bottom-clause-store
-unfolding put_window put_window_if
-returns-then-is_bottom-clause-store c =
-    let a = c.args in
-    let x = c.candle_of-x.ensures in
-    let y = c.candle_of-y.ensures in
-    let z = c.candle_of-z.ensures in
-    rw (top_read a.a a.b a.c x y z c.is_top.ensures c.if-is_top.false, bottom_read a.a a.b a.c x y z c.is_bottom.ensures c.if-is_bottom.true) c.put_fractal-then-is_bottom.ensures.store
-
-pub returns-clause-store : goal.returns-clause-store
-unfolding put_window put_window_if
-returns-clause-store c =
-    let a = c.args in
-    let x = c.candle_of-x.ensures in
-    let y = c.candle_of-y.ensures in
-    let z = c.candle_of-z.ensures in
-    rw (top_read a.a a.b a.c x y z c.is_top.ensures c.if-is_top.false, bottom_read a.a a.b a.c x y z c.is_bottom.ensures c.if-is_bottom.false)
+pub returns-in-None-clause-store : goal.returns-in-None-clause-store
+unfolding plain_bar put_marked
+returns-in-None-clause-store c =
+    sym (window_put _ _ _ _ _ _ (c.in-None.ensures ∙ (λ i. mark_of (c.of.ensures i) (c.of-2.ensures i) (c.of-3.ensures i))))

@@ -1,8 +1,0 @@
-use mathlib.Core.Path.{◌≡◌}
-use lib.ListN.{drop}
-use Rattle.bars.specs.Lists.{every}
-use Rattle.sound.specs.Code.SoundStand.{is_time}
-use Rattle.sound.proofs.soundness.each_named.Given as goal
-
-abbrev pub invariant-loop-t : goal.invariant-loop-t
-invariant-loop-t l = every (is_time l.ts) (drop l.t-index l.elements) ≡ every (is_time l.ts) l.elements
