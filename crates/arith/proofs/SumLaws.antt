@@ -357,8 +357,7 @@ unfolding snr_of snr_end snr_more sum_from_zero last_from
 snr-is [] = refl
 snr-is (p ∷ []) = refl
 snr-is (p ∷ q ∷ l) =
-    ap snr_end (snr_fold p.0 q.1 (plus (change_of p) (change_of q)) l)
-    ∙ ap (λ (z : Float). quotient (change_of (p.0, last_from q.1 l)) (foldl plus (plus z (change_of q)) (map change_of l))) (sym (zero-plus-change p))
+    ap snr_end (snr_fold p.0 q.1 (plus (plus zero_f (change_of p)) (change_of q)) l)
 
 -- ---- a loop over a list: what is left to take in gives the answer
 

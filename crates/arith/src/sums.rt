@@ -187,13 +187,13 @@ impl Accumulator for FitSums {
     }
 }
 
-// What SNR asks of bars in turn: of the only bar its open and close, of two and more the first open, the
-// last close and the sum of the changes.
+// What SNR asks of bars in turn: the sum of the changes, beside it of the only bar its open and close, of two and more the first
+// open and the last close. The sum may begin at any number; `new` begins at zero.
 // Kept: no Accumulator, since it takes two values, which lie in two slices: as one its `each` would go over a slice of pairs, which no caller has.
 #[derive(Clone, Copy)]
 pub enum SnrSums {
-    NoBar,
-    OneBar { open: f64, close: f64 },
+    NoBar { sum: f64 },
+    OneBar { open: f64, close: f64, sum: f64 },
     Bars { first: f64, last: f64, sum: f64 },
 }
 
@@ -201,21 +201,26 @@ impl SnrSums {
     pub fn new() -> Self
         ensures { result ≡ snr_start }
     {
-        SnrSums::NoBar
+        SnrSums::NoBar { sum: 0.0 }
     }
 
     pub fn more(self, open: f64, close: f64) -> Self
         ensures { result ≡ snr_more self («open», close) }
     {
         match self {
-            SnrSums::NoBar => SnrSums::OneBar { open, close },
+            SnrSums::NoBar { sum: before } => SnrSums::OneBar {
+                open,
+                close,
+                sum: before + change(open, close),
+            },
             SnrSums::OneBar {
                 open: first,
-                close: second,
+                close: _,
+                sum,
             } => SnrSums::Bars {
                 first,
                 last: close,
-                sum: change(first, second) + change(open, close),
+                sum: sum + change(open, close),
             },
             SnrSums::Bars {
                 first,
@@ -243,8 +248,12 @@ impl SnrSums {
         ensures { result ≡ snr_end self }
     {
         match self {
-            SnrSums::NoBar => 0.0,
-            SnrSums::OneBar { open, close } => change(open, close),
+            SnrSums::NoBar { sum: _ } => 0.0,
+            SnrSums::OneBar {
+                open,
+                close,
+                sum: _,
+            } => change(open, close),
             SnrSums::Bars { first, last, sum } => ratio(change(first, last), sum),
         }
     }

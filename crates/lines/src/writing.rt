@@ -19,7 +19,7 @@ pub fn buffered_output(alloc: Global, to: Stdout) -> io::Result<Output>
 
 // Writes what waits where the next line may have to be waited for, since whoever sends it may wait for these answers.
 pub fn flush_before_reading(out: &mut Output, from: &Input) -> io::Result<()>
-    ensures flushed { OnOk result (list_any (λ b. b == 10) (reader_buffer from.now) ≡ false → writer_buffer out.new ≡ []) }
+    ensures flushed { OnOk result (list_any (λ b. b == 10) (reader_buffer from.now.bytes) ≡ false → writer_buffer out.new ≡ []) }
 {
     if has_line(from) {
         return Ok(());

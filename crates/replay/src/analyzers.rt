@@ -3,11 +3,10 @@ ghost use Rattle.strokes.specs.Columns.{written_in};
 ghost use Rattle.from_fresh.specs.FromFresh.{FromFresh};
 
 use crate::calls::{Call, Fresh};
-use crate::owned::{OwnedFractals, OwnedMerged, OwnedRaw};
+use crate::owned::OwnedStores;
 use crate::player::{Failure, Player};
 use from_fresh::update_from_fresh;
 use report_lines::Analyzer;
-use std::alloc::Global;
 use stores::{MergedColumnsMut, RawColumnsMut};
 use strokes::{FractalColumnsMut, Stand, StoreColumns};
 
@@ -43,9 +42,11 @@ fn play(
                 0,
             );
             player.fed(answer)?;
-        } else {
+        } else if matches!(call, Call::Stand | Call::Reports) {
             let stores = StoreColumns::of(&raw, &unfinished, &strokes, &fractals);
-            let accepted = player.answer(call, Some(Analyzer { stand, stores }))?;
+            player.show(call, Analyzer { stand, stores })?;
+        } else {
+            let accepted = player.answer(call)?;
             if accepted.is_some() {
                 return Ok(accepted);
             }
@@ -70,24 +71,21 @@ fn start(
     play(player, stand, raw, unfinished, strokes, fractals)
 }
 
-// The same over stores of its own, as long as was asked for. The answers so far are written first, so that none is lost where memory is short.
+// The same over the program's own stores, as long as was asked for. The answers so far are written first, so that none is lost where memory is short.
 pub fn with_stores(
-    alloc: Global,
+    stores: &mut OwnedStores,
     player: &mut Player,
     asked: Fresh,
 ) -> Result<Option<Fresh>, Failure> {
     player.flush()?;
     let rooms = asked.rooms;
-    let mut raw = OwnedRaw::new(alloc, rooms.raw)?;
-    let mut unfinished = OwnedMerged::new(alloc, rooms.unfinished)?;
-    let mut strokes = OwnedMerged::new(alloc, rooms.strokes)?;
-    let mut fractals = OwnedFractals::new(alloc, rooms.strokes)?;
+    stores.grow(rooms)?;
     start(
         player,
         asked,
-        raw.lent(),
-        unfinished.lent(),
-        strokes.lent(),
-        fractals.lent(),
+        stores.raw.lent(rooms.raw),
+        stores.unfinished.lent(rooms.unfinished),
+        stores.strokes.lent(rooms.strokes),
+        stores.fractals.lent(rooms.strokes),
     )
 }

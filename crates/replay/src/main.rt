@@ -12,12 +12,14 @@ mod calls;
 mod owned;
 mod player;
 
+use owned::OwnedStores;
 use player::{Failure, Player};
 
 // One analyzer after the other.
 fn replay(rt: &HostRuntime) -> Result<(), Failure> {
     let alloc = rt.alloc();
     let mut player = Player::new(alloc, rt.stdin(), rt.stdout())?;
+    let mut stores = OwnedStores::new(alloc);
     let mut next = player.first()?;
     // A proved loop has to end, and nothing says that the input does. So it counts the analyzers, up to a number that no run reaches.
     // Kept: a loop of its own, see play (analyzers).
@@ -25,7 +27,7 @@ fn replay(rt: &HostRuntime) -> Result<(), Failure> {
         let Some(asked) = next else {
             break;
         };
-        next = analyzers::with_stores(alloc, &mut player, asked)?;
+        next = analyzers::with_stores(&mut stores, &mut player, asked)?;
     }
     player.flush()
 }

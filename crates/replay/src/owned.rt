@@ -1,7 +1,22 @@
-// The program's own stores: columns of as many places as an analyzer was asked for, which it is lent.
+// The program's own stores: columns that grow to the places an analyzer asks for, and stay for the next one. Taken anew for each analyzer, their memory would be
+// asked for and handed back each time, which takes many times as long as what most analyzers do with it.
 use std::alloc::{AllocError, Global};
 use stores::{MergedColumnsMut, RawColumnsMut};
-use strokes::FractalColumnsMut;
+use strokes::{FractalColumnsMut, Rooms};
+
+// A column of so many places, or of more, if it has them.
+fn grow<T: Clone + Drop>(column: &mut Vec<T>, places: usize, blank: T) -> Result<(), AllocError> {
+    if column.len() < places {
+        column.resize(places, blank)?;
+    }
+    Ok(())
+}
+
+// The first places of a column, as many as are asked for.
+fn front<T>(column: &mut [T], places: usize) -> &mut [T] {
+    let n = places.min(column.len());
+    &mut column[..n]
+}
 
 #[derive(Drop)]
 pub struct OwnedRaw {
@@ -11,19 +26,25 @@ pub struct OwnedRaw {
 }
 
 impl OwnedRaw {
-    pub fn new(alloc: Global, places: usize) -> Result<Self, AllocError> {
-        Ok(OwnedRaw {
-            times: vec![in alloc; 0; places]?,
-            ids: vec![in alloc; 0; places]?,
-            prices: vec![in alloc; [0.0; 6]; places]?,
-        })
+    pub fn new(alloc: Global) -> Self {
+        OwnedRaw {
+            times: Vec::new(alloc),
+            ids: Vec::new(alloc),
+            prices: Vec::new(alloc),
+        }
     }
 
-    pub fn lent(&mut self) -> RawColumnsMut<'_> {
+    fn grow(&mut self, places: usize) -> Result<(), AllocError> {
+        grow(&mut self.times, places, 0)?;
+        grow(&mut self.ids, places, 0)?;
+        grow(&mut self.prices, places, [0.0; 6])
+    }
+
+    pub fn lent(&mut self, places: usize) -> RawColumnsMut<'_> {
         RawColumnsMut {
-            times: &mut self.times,
-            ids: &mut self.ids,
-            prices: &mut self.prices,
+            times: front(&mut self.times, places),
+            ids: front(&mut self.ids, places),
+            prices: front(&mut self.prices, places),
         }
     }
 }
@@ -38,23 +59,31 @@ pub struct OwnedMerged {
 }
 
 impl OwnedMerged {
-    pub fn new(alloc: Global, places: usize) -> Result<Self, AllocError> {
-        Ok(OwnedMerged {
-            times: vec![in alloc; 0; places]?,
-            ids: vec![in alloc; 0; places]?,
-            prices: vec![in alloc; [0.0; 6]; places]?,
-            counts: vec![in alloc; 0; places]?,
-            elements: vec![in alloc; [0; 101]; places]?,
-        })
+    pub fn new(alloc: Global) -> Self {
+        OwnedMerged {
+            times: Vec::new(alloc),
+            ids: Vec::new(alloc),
+            prices: Vec::new(alloc),
+            counts: Vec::new(alloc),
+            elements: Vec::new(alloc),
+        }
     }
 
-    pub fn lent(&mut self) -> MergedColumnsMut<'_> {
+    fn grow(&mut self, places: usize) -> Result<(), AllocError> {
+        grow(&mut self.times, places, 0)?;
+        grow(&mut self.ids, places, 0)?;
+        grow(&mut self.prices, places, [0.0; 6])?;
+        grow(&mut self.counts, places, 0)?;
+        grow(&mut self.elements, places, [0; 101])
+    }
+
+    pub fn lent(&mut self, places: usize) -> MergedColumnsMut<'_> {
         MergedColumnsMut {
-            times: &mut self.times,
-            ids: &mut self.ids,
-            prices: &mut self.prices,
-            counts: &mut self.counts,
-            elements: &mut self.elements,
+            times: front(&mut self.times, places),
+            ids: front(&mut self.ids, places),
+            prices: front(&mut self.prices, places),
+            counts: front(&mut self.counts, places),
+            elements: front(&mut self.elements, places),
         }
     }
 }
@@ -66,17 +95,50 @@ pub struct OwnedFractals {
 }
 
 impl OwnedFractals {
-    pub fn new(alloc: Global, places: usize) -> Result<Self, AllocError> {
-        Ok(OwnedFractals {
-            stamps: vec![in alloc; [0; 6]; places]?,
-            prices: vec![in alloc; [0.0; 18]; places]?,
-        })
+    pub fn new(alloc: Global) -> Self {
+        OwnedFractals {
+            stamps: Vec::new(alloc),
+            prices: Vec::new(alloc),
+        }
     }
 
-    pub fn lent(&mut self) -> FractalColumnsMut<'_> {
+    fn grow(&mut self, places: usize) -> Result<(), AllocError> {
+        grow(&mut self.stamps, places, [0; 6])?;
+        grow(&mut self.prices, places, [0.0; 18])
+    }
+
+    pub fn lent(&mut self, places: usize) -> FractalColumnsMut<'_> {
         FractalColumnsMut {
-            stamps: &mut self.stamps,
-            prices: &mut self.prices,
+            stamps: front(&mut self.stamps, places),
+            prices: front(&mut self.prices, places),
         }
+    }
+}
+
+// All of them.
+#[derive(Drop)]
+pub struct OwnedStores {
+    pub raw: OwnedRaw,
+    pub unfinished: OwnedMerged,
+    pub strokes: OwnedMerged,
+    pub fractals: OwnedFractals,
+}
+
+impl OwnedStores {
+    pub fn new(alloc: Global) -> Self {
+        OwnedStores {
+            raw: OwnedRaw::new(alloc),
+            unfinished: OwnedMerged::new(alloc),
+            strokes: OwnedMerged::new(alloc),
+            fractals: OwnedFractals::new(alloc),
+        }
+    }
+
+    // Places for an analyzer that asks for these.
+    pub fn grow(&mut self, rooms: Rooms) -> Result<(), AllocError> {
+        self.raw.grow(rooms.raw)?;
+        self.unfinished.grow(rooms.unfinished)?;
+        self.strokes.grow(rooms.strokes)?;
+        self.fractals.grow(rooms.strokes)
     }
 }

@@ -121,22 +121,26 @@ impl Player {
         }
     }
 
-    // The answer to a call that leaves the stores as they are: any but a feed to an analyzer. Before any accepted `n` there is none, so that only an `n` is answered.
+    // The answer to a call that asks no analyzer, and `no 4` to one that does, since none is there.
     // Hands back the analyzer that was asked for, where it is accepted.
-    pub fn answer(
-        &mut self,
-        call: Call,
-        analyzer: Option<Analyzer<'_>>,
-    ) -> Result<Option<Fresh>, Failure> {
-        match (call, analyzer) {
-            (Call::Skip, _) => {}
-            (Call::Bad, _) => writeln!(self.answers, "bad line {}", self.number)?,
-            (Call::Start(asked), _) => return Ok(self.started(asked)?),
-            (Call::Stand, Some(analyzer)) => analyzer.stand_lines(&mut self.answers)?,
-            (Call::Reports, Some(analyzer)) => analyzer.report(&mut self.answers)?,
+    pub fn answer(&mut self, call: Call) -> Result<Option<Fresh>, Failure> {
+        match call {
+            Call::Skip => {}
+            Call::Bad => writeln!(self.answers, "bad line {}", self.number)?,
+            Call::Start(asked) => return Ok(self.started(asked)?),
             _ => refusal(&mut self.answers, Question::Sound)?,
         }
         Ok(None)
+    }
+
+    // The answer to a call that asks an analyzer and leaves it as it is: the reports, or the stand.
+    // Kept: beside `answer`: an analyzer is a copy of its stand, which takes longer than the answer to a line that asks none.
+    pub fn show(&mut self, call: Call, analyzer: Analyzer<'_>) -> Result<(), Failure> {
+        match call {
+            Call::Reports => analyzer.report(&mut self.answers)?,
+            _ => analyzer.stand_lines(&mut self.answers)?,
+        }
+        Ok(())
     }
 
     // The answers before any analyzer, up to an accepted `n` or the last line.
@@ -147,7 +151,7 @@ impl Player {
             let Some(call) = self.next_call()? else {
                 break;
             };
-            let accepted = self.answer(call, None)?;
+            let accepted = self.answer(call)?;
             if accepted.is_some() {
                 return Ok(accepted);
             }

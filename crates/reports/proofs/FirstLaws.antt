@@ -17,7 +17,7 @@ use Rattle.named.specs.declared.stroke_rows.StrokeRows.{StrokeRows}
 use Rattle.named.specs.Code.NamedRows.{rows_of}
 use Rattle.named.specs.ReportQuestions.{nth}
 use Rattle.named.proofs.StrokeAt.{nth-none}
-use Rattle.reports.specs.FirstQuestions.{if_sound, if_kept, asked_rows}
+use Rattle.reports.specs.Code.FirstQuestions.{if_sound, if_kept, asked_rows}
 
 -- one is no other
 pub err_ok : {A X : Type 0} (e : Question) (a : A) → ◌≡◌ {A = Result A Question} (Err e) (Ok a) → X

@@ -32,7 +32,7 @@ use Rattle.reports.specs.FractalList.{is_after, list_if, later_than, stroke_fxs,
 use Rattle.reports.specs.Code.FxListing.{stroke_rows, CanRead}
 use Rattle.reports.specs.FxAnswers.{fits_all, listed_by, output_by, FxDone, fx_list_of}
 use Rattle.reports.proofs.FxRows.{all_rows, CanGo}
-use Rattle.reports.specs.FirstQuestions.{if_sound}
+use Rattle.reports.specs.Code.FirstQuestions.{if_sound}
 use Rattle.reports.proofs.FirstLaws.{unsound, sound_no}
 use Rattle.reports.proofs.FxListed.{strokes_are}
 use Rattle.reports.proofs.FxPasses.{windows_few, rows_few, later_few}

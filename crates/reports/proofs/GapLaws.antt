@@ -25,7 +25,7 @@ use Rattle.sound.proofs.SoundFacts.{sound_fit}
 use Rattle.std.proofs.Common.{Ok, Err, IsErrAnd, ◌⊎◌, inl, inr}
 use Rattle.bars.specs.Refusals.{number}
 use Rattle.bars.specs.declared.refusals.Question.TheVariants.{MinimumLength, MostStrokes, Rooms, Sound, Time, Prices, Volumes, LowAtMostHigh, NotEarlier, RawRoom, UnfinishedRoom, StrokeRoom, Exists, OutputRoom, Summary, Places, Record, Digits}
-use Rattle.reports.specs.FirstQuestions.{if_sound}
+use Rattle.reports.specs.Code.FirstQuestions.{if_sound}
 use Rattle.reports.proofs.FirstLaws.{handed_up, ok_same, err_ok, unsound, sound_no}
 use Rattle.reports.specs.GapAnswers.{kept_prices, pair_by, gap_report, ListedAt, GapsAnswered, gaps_answered, gaps_fit, gaps_by, gaps_report}
 

@@ -29,7 +29,7 @@ use Rattle.bars.specs.declared.refusals.Question.{Question}
 use Rattle.bars.specs.declared.refusals.Question.TheVariants.{OutputRoom}
 use Rattle.stores.specs.declared.lent_columns.RawColumnsMut.{RawColumnsMut}
 use Rattle.stores.specs.Columns.{raw_of, SameRaw}
-use Rattle.reports.specs.FirstQuestions.{asked_rows}
+use Rattle.reports.specs.Code.FirstQuestions.{asked_rows}
 use Rattle.reports.proofs.FirstLaws.{handed_up, rows_by}
 use Rattle.reports.specs.Measures.{get_raw_bars}
 use Rattle.reports.specs.Code.ElementPrices.{elements_in, bars_named}

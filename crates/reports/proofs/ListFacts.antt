@@ -20,7 +20,7 @@ use Rattle.std.proofs.Common.{Result, Ok, Err, IsErrAnd}
 use Rattle.bars.specs.declared.refusals.Question.{Question}
 use Rattle.bars.specs.declared.refusals.Question.TheVariants.{Sound}
 use Rattle.machine.specs.Stand.{State}
-use Rattle.reports.specs.FirstQuestions.{if_sound}
+use Rattle.reports.specs.Code.FirstQuestions.{if_sound}
 use Rattle.reports.proofs.FirstLaws.{ok_same, err_ok, sound_no}
 use Rattle.question4.proofs.Question4Passed.{is-sound}
 use Rattle.reports.specs.FractalList.{get_finished_bis, last_bi_extend}

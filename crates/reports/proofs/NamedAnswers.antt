@@ -24,7 +24,7 @@ use Rattle.std.proofs.Common.{Result, Ok, Err, IsErrAnd}
 use Rattle.bars.specs.declared.refusals.Question.{Question}
 use Rattle.bars.specs.declared.refusals.Question.TheVariants.{Exists}
 use Rattle.reports.specs.declared.measures.Measures.{Measures}
-use Rattle.reports.specs.FirstQuestions.{asked_rows}
+use Rattle.reports.specs.Code.FirstQuestions.{asked_rows}
 use Rattle.reports.proofs.FirstLaws.{rows_no}
 use Rattle.reports.specs.Measures.{measures_of}
 use Rattle.reports.specs.declared.fractal_answers.FractalAnswers.{FractalAnswers}

@@ -30,7 +30,7 @@ use Rattle.named.specs.declared.stroke_rows.StrokeRows.{StrokeRows}
 use Rattle.std.proofs.Common.{Ok, true}
 use Rattle.question4.specs.Question4.{question4}
 use Rattle.question4.proofs.Question4Passed.{is-sound}
-use Rattle.reports.specs.FirstQuestions.{asked_rows}
+use Rattle.reports.specs.Code.FirstQuestions.{asked_rows}
 use Rattle.reports.proofs.FirstLaws.{named_is}
 use Rattle.reports.specs.Measures.{get_raw_bars, closes_of, opens_and_closes}
 use Rattle.reports.specs.Code.ElementPrices.{end_of, elements_in, InColumns}

@@ -34,7 +34,7 @@ use Rattle.reports.specs.declared.fractal_walk.FractalBars.{FractalBars}
 use Rattle.std.proofs.Common.{Result, Ok, Err, IsErrAnd}
 use Rattle.bars.specs.declared.refusals.Question.{Question}
 use Rattle.bars.specs.declared.refusals.Question.TheVariants.{Summary}
-use Rattle.reports.specs.FirstQuestions.{if_sound}
+use Rattle.reports.specs.Code.FirstQuestions.{if_sound}
 use Rattle.reports.proofs.FirstLaws.{sound_no}
 use Rattle.reports.specs.declared.ubi.UbiSummary.{UbiSummary}
 use Rattle.reports.specs.Measures.{elements_of}

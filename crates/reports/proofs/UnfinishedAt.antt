@@ -28,7 +28,7 @@ use Rattle.strokes.proofs.StoredUnfinished.{room_of}
 use Rattle.question4.specs.Question4.{question4}
 use Rattle.sound.proofs.SoundFacts.{sound_fit}
 use Rattle.question4.proofs.Question4Passed.{is-sound}
-use Rattle.reports.specs.FirstQuestions.{if_sound}
+use Rattle.reports.specs.Code.FirstQuestions.{if_sound}
 use Rattle.reports.specs.declared.fractal_answers.FractalAnswers.{FractalAnswers}
 use Rattle.reports.specs.declared.fractal_walk.FractalBars.{FractalBars}
 use Rattle.reports.specs.FractalAnswers.{strength_at, power_str, fractal_volume, has_zs, answers_of}

@@ -1,3 +1,4 @@
+pub mod FirstQuestions
 pub mod ElementPrices
 pub mod FractalWalk
 pub mod FxListing

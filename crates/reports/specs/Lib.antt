@@ -1,4 +1,3 @@
-pub mod FirstQuestions
 pub mod Measures
 pub mod FractalAnswers
 pub mod FractalList

@@ -2,7 +2,7 @@
 ghost use Rattle.std.specs.Prelude.{◌≡◌, length};
 ghost use Rattle.strokes.specs.Columns.{stores_in};
 ghost use Rattle.question4.specs.Question4.{question4};
-ghost use Rattle.reports.specs.FirstQuestions.{if_sound, asked_rows};
+ghost use Rattle.reports.specs.Code.FirstQuestions.{if_sound, asked_rows};
 
 use bars::Question;
 use named::StrokeRows;
@@ -11,7 +11,7 @@ use strokes::{Stand, StoreColumns};
 // Question 4. The contract adds the lengths of the stand's lists of counts.
 // Kept: the lengths as clauses, as in named's contracts: a caller that reads these lists by place has their length from a contract. named::kept has it, and is
 // called in ask_sound for nothing else.
-#[tactic(auto, unfolding(crate::specs::FirstQuestions::if_sound))]
+#[tactic(auto, unfolding(crate::specs::Code::FirstQuestions::if_sound))]
 pub fn ask_sound(stand: Stand, stores: StoreColumns<'_>) -> Result<(), Question>
     ensures value { result ≡ if_sound (question4 stand (stores_in stores.entry)) tt }
     ensures bars { length stand.bars ≡ 65 }

@@ -73,19 +73,19 @@ unfoldable pub fit_end : FitSums → Float
 unfolding fit_end_if lt
 fit_end s = fit_end_if (lt s.n three_f) s
 
--- of one bar its open and close are kept, of more the first open, the last close and the sum of the changes
+-- beside the sum of the changes, of one bar its open and close are kept, of more the first open and the last close
 abbrev pub snr_start : SnrSums
-snr_start = NoBar
+snr_start = NoBar zero_f
 
 unfoldable pub snr_more : SnrSums → Float × Float → SnrSums
 unfolding add change_of
-snr_more NoBar p = OneBar p.0 p.1
-snr_more (OneBar o c) p = Bars o p.1 (plus (change_of (o, c)) (change_of p))
+snr_more (NoBar t) p = OneBar p.0 p.1 (plus t (change_of p))
+snr_more (OneBar o c t) p = Bars o p.1 (plus t (change_of p))
 snr_more (Bars o c t) p = Bars o p.1 (plus t (change_of p))
 
 -- none: 0.0; one: |close - open|; else the ratio
 unfoldable pub snr_end : SnrSums → Float
 unfolding change_of quotient_if eq
-snr_end NoBar = zero_f
-snr_end (OneBar o c) = change_of (o, c)
+snr_end (NoBar t) = zero_f
+snr_end (OneBar o c t) = change_of (o, c)
 snr_end (Bars o c t) = quotient (change_of (o, c)) t

@@ -3,11 +3,11 @@ use Rattle.arith.proofs.sums.SnrSums.more.Goals as goal
 
 pub returns-in-NoBar : goal.returns-in-NoBar
 unfolding snr_more
-returns-in-NoBar c = rw c.in-NoBar.is
+returns-in-NoBar c = rw (c.in-NoBar.is, c.change.ensures)
 
 pub returns-in-OneBar : goal.returns-in-OneBar
 unfolding snr_more
-returns-in-OneBar c = rw (c.in-OneBar.is, c.change.ensures, c.change-in-OneBar.ensures)
+returns-in-OneBar c = rw (c.in-OneBar.is, c.change-in-OneBar.ensures)
 
 pub returns-in-Bars : goal.returns-in-Bars
 unfolding snr_more
