@@ -1,11 +1,15 @@
 // The program's own stores: columns that grow to the places an analyzer asks for, and stay for the next one. Taken anew for each analyzer, their memory would be
 // asked for and handed back each time, which takes many times as long as what most analyzers do with it.
+ghost use Rattle.std.specs.Prelude.{◌≤◌, OnOk, vec_len};
+
 use std::alloc::{AllocError, Global};
 use stores::{MergedColumnsMut, RawColumnsMut};
 use strokes::{FractalColumnsMut, Rooms};
 
 // A column of so many places, or of more, if it has them.
-fn grow<T: Clone + Drop>(column: &mut Vec<T>, places: usize, blank: T) -> Result<(), AllocError> {
+fn grow<T: Clone + Drop>(column: &mut Vec<T>, places: usize, blank: T) -> Result<(), AllocError>
+    ensures { OnOk result (places ≤ vec_len column.new) }
+{
     if column.len() < places {
         column.resize(places, blank)?;
     }
@@ -34,7 +38,9 @@ impl OwnedRaw {
         }
     }
 
-    fn grow(&mut self, places: usize) -> Result<(), AllocError> {
+    fn grow(&mut self, places: usize) -> Result<(), AllocError>
+        ensures { OnOk result ((places ≤ vec_len self.new.times) × (places ≤ vec_len self.new.ids) × (places ≤ vec_len self.new.prices)) }
+    {
         grow(&mut self.times, places, 0)?;
         grow(&mut self.ids, places, 0)?;
         grow(&mut self.prices, places, [0.0; 6])
@@ -69,7 +75,9 @@ impl OwnedMerged {
         }
     }
 
-    fn grow(&mut self, places: usize) -> Result<(), AllocError> {
+    fn grow(&mut self, places: usize) -> Result<(), AllocError>
+        ensures { OnOk result ((places ≤ vec_len self.new.times) × (places ≤ vec_len self.new.ids) × (places ≤ vec_len self.new.prices) × (places ≤ vec_len self.new.counts) × (places ≤ vec_len self.new.elements)) }
+    {
         grow(&mut self.times, places, 0)?;
         grow(&mut self.ids, places, 0)?;
         grow(&mut self.prices, places, [0.0; 6])?;
@@ -102,7 +110,9 @@ impl OwnedFractals {
         }
     }
 
-    fn grow(&mut self, places: usize) -> Result<(), AllocError> {
+    fn grow(&mut self, places: usize) -> Result<(), AllocError>
+        ensures { OnOk result ((places ≤ vec_len self.new.stamps) × (places ≤ vec_len self.new.prices)) }
+    {
         grow(&mut self.stamps, places, [0; 6])?;
         grow(&mut self.prices, places, [0.0; 18])
     }
@@ -135,7 +145,12 @@ impl OwnedStores {
     }
 
     // Places for an analyzer that asks for these.
-    pub fn grow(&mut self, rooms: Rooms) -> Result<(), AllocError> {
+    pub fn grow(&mut self, rooms: Rooms) -> Result<(), AllocError>
+        ensures raw { OnOk result ((rooms.raw ≤ vec_len self.new.raw.times) × (rooms.raw ≤ vec_len self.new.raw.ids) × (rooms.raw ≤ vec_len self.new.raw.prices)) }
+        ensures unfinished { OnOk result ((rooms.unfinished ≤ vec_len self.new.unfinished.times) × (rooms.unfinished ≤ vec_len self.new.unfinished.ids) × (rooms.unfinished ≤ vec_len self.new.unfinished.prices) × (rooms.unfinished ≤ vec_len self.new.unfinished.counts) × (rooms.unfinished ≤ vec_len self.new.unfinished.elements)) }
+        ensures strokes { OnOk result ((rooms.strokes ≤ vec_len self.new.strokes.times) × (rooms.strokes ≤ vec_len self.new.strokes.ids) × (rooms.strokes ≤ vec_len self.new.strokes.prices) × (rooms.strokes ≤ vec_len self.new.strokes.counts) × (rooms.strokes ≤ vec_len self.new.strokes.elements)) }
+        ensures fractals { OnOk result ((rooms.strokes ≤ vec_len self.new.fractals.stamps) × (rooms.strokes ≤ vec_len self.new.fractals.prices)) }
+    {
         self.raw.grow(rooms.raw)?;
         self.unfinished.grow(rooms.unfinished)?;
         self.strokes.grow(rooms.strokes)?;
